@@ -1,0 +1,139 @@
+-- Paper, "Points, phrases and the order list": the form of a seek body.
+use Prim.Native.Nat.{ℕ, zero, suc, _+_, _*_}
+use mathlib.Core.List.{List, [], _∷_}
+use mathlib.Core.Bool.{Bool, true, false, not}
+use mathlib.Core.Option.{Option, none, some}
+use lib.ListN.{length, drop}
+use Rattle.model.specs.Words.{if_then_else_, _and_, _or_, _<?_, _≤?_, _≡?_, any, firstSaid, Placed, Checked, Checked.fine, Checked.refused, passed, Walk, Walk.over, Walk.broken, Walk._then_, inTurn}
+use Rattle.model.specs.Bytes.{_!_, number, part}
+use Rattle.model.specs.declared.ReadEntry.{ReadEntry}
+use Rattle.model.specs.declared.ReadEntry.the-variants.{Start, Stop, Phrase, Order, Refused}
+
+-- An entry: a start or stop point, a phrase with its letter, start and stop address, or the letters of the order list.
+pub data Entry : Type 0 where
+  start : ℕ → Entry
+  stop : ℕ → Entry
+  phrase : ℕ → ℕ → ℕ → Entry
+  order : List ℕ → Entry
+
+-- a..z, and A, B, E, I, K, S, R
+unfoldable pub isLetter : ℕ → Bool
+isLetter byte =
+    ((0x61 ≤? byte) and (byte ≤? 0x7A))
+    or any (λ letter. letter ≡? byte) (0x41 ∷ 0x42 ∷ 0x45 ∷ 0x49 ∷ 0x4B ∷ 0x53 ∷ 0x52 ∷ [])
+
+-- the two tag bytes as a number: "st", "sp", "P" and a letter, "SL"
+unfoldable pub tag : Entry → ℕ
+tag (start value) = 0x7374
+tag (stop value) = 0x7370
+tag (phrase letter from to) = 0x50 * 256 + letter
+tag (order letters) = 0x534C
+
+-- how many letters stand in front
+unfoldable pub lettersInFront : List ℕ → ℕ
+lettersInFront [] = 0
+lettersInFront (byte ∷ bytes) = if isLetter byte then suc (lettersInFront bytes) else 0
+
+-- the data of an entry whose tag is given; a point's value has so many bytes
+unfoldable pub dataAt : ℕ → List ℕ → ℕ → ℕ → ReadEntry
+dataAt width s tagged at =
+    if tagged ≡? 0x7374 then (if length s <? at + width then Refused else Start (number width s at) (at + width)) else
+    if tagged ≡? 0x7370 then (if length s <? at + width then Refused else Stop (number width s at) (at + width)) else
+    if tagged ≡? 0x534C then Order (lettersInFront (drop at s)) (at + lettersInFront (drop at s)) else
+    Refused
+
+-- a phrase's data: a 4-byte start and a 4-byte stop
+unfoldable pub phraseAt : List ℕ → ℕ → ℕ → ReadEntry
+phraseAt s letter at =
+    if length s <? at + 8 then Refused else
+    Phrase letter (number 4 s at) (number 4 s (at + 4)) (at + 8)
+
+-- two tag bytes, a colon, data
+unfoldable pub entryAt : ℕ → List ℕ → ℕ → ReadEntry
+entryAt width s at =
+    if length s <? at + 3 then Refused else
+    if not (s ! (at + 2) ≡? 0x3A) then Refused else
+    if (s ! at ≡? 0x50) and isLetter (s ! (at + 1)) then phraseAt s (s ! (at + 1)) (at + 3) else
+    dataAt width s (number 2 s at) (at + 3)
+
+-- A comma stands between entries, and one more after the last is allowed. Another byte after the data is that entry's fault.
+unfoldable pub followed : List ℕ → ℕ → ℕ → Entry → (ℕ → Walk (Placed Entry)) → Walk (Placed Entry)
+followed s at next entry go =
+    if length s ≤? next then record { place = at; what = entry } then over else
+    if not (s ! next ≡? 0x2C) then broken 12 at else
+    if length s ≤? next + 1 then record { place = at; what = entry } then over else
+    record { place = at; what = entry } then go (next + 1)
+
+unfoldable pub metEntry : List ℕ → ℕ → ReadEntry → (ℕ → Walk (Placed Entry)) → Walk (Placed Entry)
+metEntry s at (Start value next) go = followed s at next (start value) go
+metEntry s at (Stop value next) go = followed s at next (stop value) go
+metEntry s at (Phrase letter from to next) go = followed s at next (phrase letter from to) go
+metEntry s at (Order letters next) go = followed s at next (order (part s (at + 3) letters)) go
+metEntry s at Refused go = broken 12 at
+
+unfoldable pub entriesFrom : ℕ → ℕ → List ℕ → ℕ → Walk (Placed Entry)
+entriesFrom zero width s at = broken 12 at
+entriesFrom (suc turns) width s at =
+    metEntry s at (entryAt width s at) (λ next. entriesFrom turns width s next)
+
+-- Order: st, sp, phrases, SL; no tag twice.
+unfoldable pub rank : Entry → ℕ
+rank (start value) = 0
+rank (stop value) = 1
+rank (phrase letter from to) = 2
+rank (order letters) = 3
+
+unfoldable pub inOrder : List (Placed Entry) → Placed Entry → Checked (Unit {0})
+inOrder before entry =
+    if any (λ earlier. tag (earlier .what) ≡? tag (entry .what)) before then refused 12 (entry .place) else
+    if any (λ earlier. rank (entry .what) <? rank (earlier .what)) before then refused 12 (entry .place) else
+    passed
+
+-- A seek body is one or more entries. Points are of 4 bytes in a stream, of 1 byte with phrases.
+unfoldable pub seekOf : ℕ → List ℕ → Checked (List (Placed Entry))
+seekOf width s =
+    if length s ≡? 0 then refused 12 0 else
+    inTurn inOrder [] (entriesFrom (suc (length s)) width s 0)
+
+-- What the entries say: the start and stop points, a letter's phrase, the order list.
+
+unfoldable pub startIn : Entry → Option ℕ
+startIn (start value) = some value
+startIn (stop value) = none
+startIn (phrase letter from to) = none
+startIn (order letters) = none
+
+unfoldable pub stopIn : Entry → Option ℕ
+stopIn (start value) = none
+stopIn (stop value) = some value
+stopIn (phrase letter from to) = none
+stopIn (order letters) = none
+
+-- a phrase's start and stop addresses
+pub record Addresses : Type 0 where
+  pub from : ℕ
+  pub to : ℕ
+
+unfoldable pub phraseIn : ℕ → Entry → Option Addresses
+phraseIn wanted (start value) = none
+phraseIn wanted (stop value) = none
+phraseIn wanted (phrase letter from to) = if letter ≡? wanted then some (record { from = from; to = to }) else none
+phraseIn wanted (order letters) = none
+
+unfoldable pub orderIn : Entry → Option (List ℕ)
+orderIn (start value) = none
+orderIn (stop value) = none
+orderIn (phrase letter from to) = none
+orderIn (order letters) = some letters
+
+unfoldable pub startPoint : List (Placed Entry) → Option ℕ
+startPoint entries = firstSaid (λ entry. startIn (entry .what)) entries
+
+unfoldable pub stopPoint : List (Placed Entry) → Option ℕ
+stopPoint entries = firstSaid (λ entry. stopIn (entry .what)) entries
+
+unfoldable pub phraseOf : ℕ → List (Placed Entry) → Option Addresses
+phraseOf letter entries = firstSaid (λ entry. phraseIn letter (entry .what)) entries
+
+unfoldable pub orderList : List (Placed Entry) → Option (List ℕ)
+orderList entries = firstSaid (λ entry. orderIn (entry .what)) entries

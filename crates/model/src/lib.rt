@@ -1,0 +1,139 @@
+// The types that answers are made of. What they mean is said in specs/, in the words of the paper.
+
+// The two voices a readable track can have.
+pub enum Voice {
+    Score,
+    Pcm,
+}
+
+// How long one step lasts. There are eight codes.
+pub struct TimeBase {
+    pub code: u8,
+}
+
+impl TimeBase {
+    pub const MS_1: u8 = 0x00;
+
+    pub const MS_2: u8 = 0x01;
+
+    pub const MS_4: u8 = 0x02;
+
+    pub const MS_5: u8 = 0x03;
+
+    pub const MS_10: u8 = 0x10;
+
+    pub const MS_20: u8 = 0x11;
+
+    pub const MS_40: u8 = 0x12;
+
+    pub const MS_50: u8 = 0x13;
+}
+
+pub enum FoundTimeBase {
+    Known(TimeBase),
+    Unknown,
+}
+
+// A duration or a gate time read at a place, and the place after it.
+pub enum ReadDuration {
+    Is { value: u32, next: usize },
+    Refused,
+}
+
+// What an item says. A note's key is its octave × 16 + its note. A control's kind is that of its played row:
+// 3 program, 4 bank, 5 octave shift, 6 modulation, 7 pitch bend, 8 volume, 9 pan, 10 expression,
+// 11 short modulation, 12 short pitch bend, 13 short expression. An exclusive is named by the place of its FF byte.
+pub enum Event {
+    Nop,
+    Note { channel: u8, key: u8, gate: u32 },
+    Wave { channel: u8, number: u8, gate: u32 },
+    Control { kind: u8, channel: u8, value: u8 },
+    Exclusive { place: usize, size: u8 },
+}
+
+pub enum ReadEvent {
+    Is { event: Event, next: usize },
+    Refused,
+}
+
+// An item read at a place, and the place after it; or a refusal, which callers hand on as it is.
+pub enum ReadItem {
+    Timed {
+        duration: u32,
+        event: Event,
+        next: usize,
+    },
+    EndMark {
+        next: usize,
+    },
+    Refused {
+        number: u32,
+        place: usize,
+    },
+}
+
+// A sequence body walked once: how many items it has and how long they last together.
+pub enum ReadBody {
+    Whole { count: usize, duration: u64 },
+    Refused { number: u32, place: usize },
+}
+
+// A check that has nothing to hand back.
+pub enum Check {
+    Passed,
+    Refused { number: u32, place: usize },
+}
+
+// A seek entry read at a place, and the place after its data. An order list has so many letters.
+pub enum ReadEntry {
+    Start {
+        value: u32,
+        next: usize,
+    },
+    Stop {
+        value: u32,
+        next: usize,
+    },
+    Phrase {
+        letter: u8,
+        start: u32,
+        stop: u32,
+        next: usize,
+    },
+    Order {
+        letters: usize,
+        next: usize,
+    },
+    Refused,
+}
+
+// The answer to a read: so many rows, the computed check code and whether the file holds it.
+pub enum ReadAnswer {
+    Rows {
+        count: usize,
+        code: u16,
+        matches: bool,
+    },
+    Refused {
+        number: u32,
+        place: usize,
+    },
+}
+
+// The answer to a play: so many rows, and the step at which the tune ends.
+pub enum PlayAnswer {
+    Rows { count: usize, end: u64 },
+    Refused { number: u32, place: usize },
+}
+
+// The answer to a flatten: so many bytes.
+pub enum FlattenAnswer {
+    Bytes { length: usize },
+    Refused { number: u32, place: usize },
+}
+
+// A pitch in semitones from the A of 440 Hz.
+pub enum Pitch {
+    Semitones { above: i32 },
+    Refused { number: u32, place: usize },
+}
