@@ -6,8 +6,8 @@ use mathlib.Core.Option.{Option, none, some}
 use lib.Dec.{ltb, leb, eqb}
 
 infixr 5 if_then_else_
-infixl 20 _or_
-infixl 25 _and_
+infixr 20 _or_
+infixr 25 _and_
 infix 50 _<?_
 infix 50 _≤?_
 infix 50 _≡?_
