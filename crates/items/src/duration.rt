@@ -1,0 +1,58 @@
+// Durations and gate times.
+ghost use mathlib.Core.Path.{_≡_};
+ghost use Prim.Native.Nat.{_≤_};
+ghost use Rattle.model.specs.Duration.{durationAt, gateAt, twoByteValue};
+use model::ReadDuration;
+
+fn wide(byte: u8) -> u32
+    ensures { λ r. ⌜ r ≡ byte ⌝ }
+{
+    byte as u32
+}
+
+fn two_byte_value(one: u8, two: u8) -> u32
+    requires { ⌜ 128 ≤ one ⌝ }
+    ensures { λ r. ⌜ r ≡ twoByteValue one two ⌝ }
+{
+    128 * (one as u32 - 128) + two as u32 + 128
+}
+
+pub fn read_duration(s: &[u8], at: usize) -> ReadDuration
+    ensures { λ r. ⌜ r ≡ durationAt (now (s .entry)) at ⌝ }
+{
+    if s.len() <= at {
+        return ReadDuration::Refused;
+    }
+    let one = s[at];
+    if one < 128 {
+        return ReadDuration::Is {
+            value: wide(one),
+            next: at + 1,
+        };
+    }
+    if s.len() <= at + 1 {
+        return ReadDuration::Refused;
+    }
+    let two = s[at + 1];
+    if two < 128 {
+        return ReadDuration::Is {
+            value: two_byte_value(one, two),
+            next: at + 2,
+        };
+    }
+    ReadDuration::Refused
+}
+
+pub fn read_gate(s: &[u8], at: usize) -> ReadDuration
+    ensures { λ r. ⌜ r ≡ gateAt (now (s .entry)) at ⌝ }
+{
+    match read_duration(s, at) {
+        ReadDuration::Is { value, next } => {
+            if value == 0 {
+                return ReadDuration::Refused;
+            }
+            ReadDuration::Is { value, next }
+        }
+        ReadDuration::Refused => ReadDuration::Refused,
+    }
+}
