@@ -1,0 +1,19 @@
+//! A second reading of the paper: files, playing, the plain form, pitch and
+//! the listing, with a generator of cases to hold against the main program.
+
+pub mod case;
+pub mod check_code;
+pub mod chunk;
+pub mod file;
+pub mod item;
+pub mod listing;
+pub mod numbers;
+pub mod pitch;
+pub mod plain;
+pub mod play;
+pub mod refusal;
+pub mod seek;
+pub mod setup;
+pub mod time_base;
+pub mod track;
+pub mod tune;
