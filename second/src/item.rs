@@ -44,15 +44,14 @@ pub struct Message {
 pub struct Item {
     pub start: usize,
     pub onset: u64,
-    /// None for a NOP.
-    pub message: Option<Message>,
 }
 
-/// A whole sequence body. `addresses` are the starts of the items and of the
-/// end mark, and the body's length.
-#[derive(Clone, Debug, PartialEq, Eq)]
+/// A whole sequence body. `messages` leaves the NOPs out. `addresses` are the
+/// starts of the items and of the end mark, and the body's length.
+#[derive(Clone, Debug, Default, PartialEq, Eq)]
 pub struct Sequence {
     pub items: Vec<Item>,
+    pub messages: Vec<(u64, Message)>,
     pub addresses: Vec<usize>,
     pub time: u64,
 }
@@ -225,7 +224,7 @@ pub fn read_sequence(body: &[u8], voice: Voice) -> Result<Sequence, Refusal> {
     if body.is_empty() {
         return Err(Refusal::at(Clause::SequenceEmpty, 0));
     }
-    let mut sequence = Sequence { items: Vec::new(), addresses: Vec::new(), time: 0 };
+    let mut sequence = Sequence::default();
     let mut at = 0;
     while at < body.len() {
         sequence.addresses.push(at);
@@ -240,7 +239,8 @@ pub fn read_sequence(body: &[u8], voice: Voice) -> Result<Sequence, Refusal> {
         let (duration, event) = duration_at(body, at).map_err(blame)?;
         let (message, end) = event_at(body, event, voice).map_err(blame)?;
         sequence.time += u64::from(duration);
-        sequence.items.push(Item { start: at, onset: sequence.time, message });
+        sequence.items.push(Item { start: at, onset: sequence.time });
+        sequence.messages.extend(message.map(|message| (sequence.time, message)));
         at = end;
     }
     sequence.addresses.push(body.len());

@@ -57,7 +57,7 @@ impl Outline {
         let mut outline =
             Outline { bytes: 0, silence_before: 0, silence_after: 0, lasts: section.lasts };
         let mut last_step = None;
-        for (step, message) in section.messages(sequence) {
+        for (step, message) in section.played(sequence) {
             match last_step {
                 None => outline.silence_before = step,
                 Some(last) => outline.bytes += gap_length(step - last),

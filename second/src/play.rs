@@ -6,43 +6,46 @@ use crate::refusal::{Clause, Refusal};
 use crate::track::Track;
 use std::ops::Range;
 
-/// A section: which items it takes in, its start time and how long it lasts.
+/// A section: which of the sequence's messages it plays, its start time and
+/// how long it lasts.
 #[derive(Clone, Debug, PartialEq, Eq)]
 pub struct Section {
-    pub items: Range<usize>,
+    pub messages: Range<usize>,
     pub start: u64,
     pub lasts: u64,
 }
 
 impl Section {
     /// The messages of the section with their steps in it.
-    pub fn messages<'a>(
+    pub fn played<'a>(
         &self,
         sequence: &'a Sequence,
     ) -> impl Iterator<Item = (u64, &'a Message)> + 'a {
         let start = self.start;
-        sequence.items[self.items.clone()]
-            .iter()
-            .filter_map(move |item| Some((item.onset - start, item.message.as_ref()?)))
+        let messages = sequence.messages[self.messages.clone()].iter();
+        messages.map(move |(onset, message)| (onset - start, message))
     }
 
-    /// Onsets never fall, so the items with a ≤ onset < b stand together.
+    /// Onsets never fall, so the messages with a ≤ onset < b stand together.
     fn between(sequence: &Sequence, start: u64, stop: u64) -> Section {
-        let first = sequence.items.partition_point(|item| item.onset < start);
-        let past = sequence.items.partition_point(|item| item.onset < stop);
-        Section { items: first..past, start, lasts: stop - start }
+        let messages = before(sequence, start)..before(sequence, stop);
+        Section { messages, start, lasts: stop - start }
     }
 
     fn without_stop(sequence: &Sequence, start: u64) -> Section {
-        let first = sequence.items.partition_point(|item| item.onset < start);
-        let lasts = sequence.time - start;
-        Section { items: first..sequence.items.len(), start, lasts }
+        let messages = before(sequence, start)..sequence.messages.len();
+        Section { messages, start, lasts: sequence.time - start }
     }
 
     /// The section that a body with no points plays.
     pub fn whole(sequence: &Sequence) -> Section {
         Section::without_stop(sequence, 0)
     }
+}
+
+/// How many messages sound before that time.
+fn before(sequence: &Sequence, time: u64) -> usize {
+    sequence.messages.partition_point(|(onset, _)| *onset < time)
 }
 
 /// What a track plays: its different sections, and the order they come in.
@@ -93,11 +96,8 @@ impl Performance {
         self.order.iter().map(|index| self.sections[*index].lasts).sum()
     }
 
-    /// How many messages are played, worked out once for each section.
-    pub fn message_count(&self, sequence: &Sequence) -> u64 {
-        let counts: Vec<u64> =
-            self.sections.iter().map(|section| section.messages(sequence).count() as u64).collect();
-        self.order.iter().map(|index| counts[*index]).sum()
+    pub fn message_count(&self) -> u64 {
+        self.order.iter().map(|index| self.sections[*index].messages.len() as u64).sum()
     }
 
     /// All played messages with their steps; count them before.
@@ -106,7 +106,7 @@ impl Performance {
         let mut before = 0;
         for index in &self.order {
             let section = &self.sections[*index];
-            let messages = section.messages(sequence);
+            let messages = section.played(sequence);
             played.extend(messages.map(|(step, message)| (before + step, *message)));
             before += section.lasts;
         }
@@ -124,7 +124,7 @@ pub struct Played {
 /// Plays a readable track into a table with that much room (17, 15).
 pub fn play_track(track: &Track, room: usize) -> Result<Played, Refusal> {
     let performance = Performance::of(track)?;
-    if performance.message_count(&track.sequence) > room as u64 {
+    if performance.message_count() > room as u64 {
         return Err(Refusal::at(Clause::PlayTableShort, track.header.place));
     }
     Ok(Played { messages: performance.messages(&track.sequence), end: performance.end() })

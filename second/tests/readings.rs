@@ -354,10 +354,10 @@ fn large_refusals_come_at_once() {
     let before = Instant::now();
     assert_eq!(outcome(play(&file, length, 2, 70_000)), (15, 21));
     assert_eq!(outcome(flatten(&file, length, 2, 70_000)), (18, 21));
-    assert!(before.elapsed() < Duration::from_secs(1));
     let silent = [0xFF, 0x7F, 0xFF, 0x00].repeat(8_000);
     let file = score(PHRASES, &[(b"MspI", &seek), (b"Mtsq", &silent)]);
     assert_eq!(steps(&file), (vec![], 30_000 * 8_000 * 16_511));
+    assert!(before.elapsed() < Duration::from_secs(1));
 }
 
 #[test]
