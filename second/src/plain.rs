@@ -71,7 +71,7 @@ impl Outline {
 }
 
 /// How long the plain form is, without writing it.
-fn plain_length(performance: &Performance, sequence: &Sequence) -> u64 {
+pub fn plain_length(performance: &Performance, sequence: &Sequence) -> u64 {
     let sections = performance.sections.iter();
     let outlines: Vec<Outline> = sections.map(|section| Outline::of(section, sequence)).collect();
     let mut length = END_MARK.len() as u64;
