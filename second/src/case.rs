@@ -7,6 +7,7 @@ use crate::numbers::number_at;
 use crate::pitch::pitch;
 use crate::plain::flatten;
 use crate::play::{play, word_of, Played};
+use crate::progress::progress;
 use crate::refusal::Refusal;
 use std::fmt::Write;
 
@@ -172,11 +173,12 @@ fn plain_text(plain: &[u8]) -> String {
 /// Answers a whole stream of cases.
 pub fn answer_stream(cases: &[u8], mut say: impl FnMut(&str)) {
     let mut rest = cases;
-    loop {
+    for done in 1.. {
         match next_case(&mut rest) {
             Next::Case(case) => say(&case.answer_text()),
             Next::Bad => return say(BAD_CASE),
             Next::End => return,
         }
+        progress(done, "cases");
     }
 }

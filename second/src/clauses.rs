@@ -2,6 +2,7 @@
 
 use crate::case::Operation;
 use crate::generate;
+use crate::progress::progress;
 use crate::refusal::Clause;
 use std::collections::BTreeMap;
 
@@ -30,9 +31,7 @@ pub fn count(operations: &[Operation], cases: u64, seed: u64) -> BTreeMap<Option
     for number in 0..cases {
         let answer = generate::case(operations, seed, number).answer();
         *counts.entry(answer.err().map(|refusal| refusal.clause)).or_insert(0) += 1;
-        if number % 100_000 == 99_999 {
-            eprintln!("{} cases", number + 1);
-        }
+        progress(number + 1, "cases");
     }
     counts
 }

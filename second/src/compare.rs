@@ -4,6 +4,7 @@ use crate::case::{next_case, text_of, Case, Next, Operation, BAD_CASE, KEPT, SPO
 use crate::check::plain_plays_the_same;
 use crate::file::open;
 use crate::plain::flatten;
+use crate::progress::progress;
 use std::collections::BTreeMap;
 
 /// The first case on which the two differ.
@@ -47,6 +48,7 @@ pub fn compare(cases: &[u8], answers: &str) -> Result<Agreement, Box<Difference>
         if case.is_none() {
             break;
         }
+        progress(number + 1, "cases");
     }
     Ok(agreement)
 }

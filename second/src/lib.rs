@@ -15,6 +15,7 @@ pub mod numbers;
 pub mod pitch;
 pub mod plain;
 pub mod play;
+pub mod progress;
 pub mod random;
 pub mod refusal;
 pub mod seek;

@@ -3,6 +3,7 @@
 use second::case::{answer_stream, Case, Operation};
 use second::compare::compare;
 use second::listing::listing;
+use second::progress::progress;
 use second::{clauses, generate, soak, tune};
 use std::io::{BufWriter, Read, Write};
 use std::process::ExitCode;
@@ -78,11 +79,9 @@ fn answer() -> Outcome {
 
 fn put_cases(cases: impl Iterator<Item = Case>) -> Outcome {
     let mut output = BufWriter::new(std::io::stdout().lock());
-    for (index, case) in cases.enumerate() {
+    for (done, case) in (1..).zip(cases) {
         output.write_all(&case.bytes()).map_err(|error| error.to_string())?;
-        if index % 100_000 == 99_999 {
-            eprintln!("{} cases", index + 1);
-        }
+        progress(done, "cases");
     }
     output.flush().map(|()| ExitCode::SUCCESS).map_err(|error| error.to_string())
 }
@@ -122,7 +121,7 @@ fn count_clauses(letters: &str, count: &str, seed: &str) -> Outcome {
 
 fn run_soak(count: &str, seed: &str) -> Outcome {
     match soak::soak(number(count)?, number(seed)?) {
-        Ok(tally) => put(format!("{tally:?}\n").as_bytes()),
+        Ok(tally) => put(tally.text().as_bytes()),
         Err(what) => {
             put(format!("{what}\n").as_bytes())?;
             Ok(ExitCode::FAILURE)

@@ -9,9 +9,10 @@ use crate::listing::listing;
 use crate::pitch::pitch;
 use crate::plain::flatten;
 use crate::play::play;
+use crate::progress::progress;
 use crate::random::Random;
 
-/// What became of the files.
+/// What became of the files; tracks are counted that played and flattened.
 #[derive(Clone, Copy, Debug, Default, PartialEq, Eq)]
 pub struct Tally {
     pub files: u64,
@@ -28,9 +29,7 @@ pub fn soak(count: u64, seed: u64) -> Result<Tally, String> {
         let file = any_file(&mut random, Operation::Listing, number % 4_000);
         run_file(&mut random, &file, &mut tally)
             .map_err(|what| format!("file {number} of seed {seed}: {what}"))?;
-        if number % 100_000 == 99_999 {
-            eprintln!("{} files", number + 1);
-        }
+        progress(number + 1, "files");
     }
     Ok(tally)
 }
@@ -55,4 +54,13 @@ fn run_file(random: &mut Random, file: &[u8], tally: &mut Tally) -> Result<(), S
         }
     }
     Ok(())
+}
+
+impl Tally {
+    pub fn text(&self) -> String {
+        let Tally { files, accepted, played, flattened } = self;
+        format!(
+            "{files} files, {accepted} accepted; {played} tracks played, {flattened} flattened\n"
+        )
+    }
 }

@@ -147,7 +147,8 @@ fn damage_addresses(random: &mut Random, track: &mut TrackPlan, clause: Clause) 
         Clause::StreamStartNoAddress => seek.put(point(b"st", bad)),
         Clause::StreamStopNoAddress => seek.put(point(b"sp", bad)),
         _ => {
-            let under: Vec<u32> = addresses.into_iter().filter(|one| *one < length).collect();
+            let mut under = addresses;
+            under.retain(|address| *address == 0 || *address < length);
             seek.put(point(b"st", length));
             seek.put(point(b"sp", random.pick(&under)));
         }

@@ -10,13 +10,12 @@ use crate::item::Voice;
 use crate::numbers::LARGEST;
 use crate::random::Random;
 
-/// A file with a number of rows near the listing's table, or near the most.
-pub fn many_chunks(random: &mut Random) -> Draft {
+/// A file with that many rows.
+pub fn many_chunks(random: &mut Random, rows: usize) -> Draft {
     let mut draft = FilePlan::new(random).draft();
     let inside: usize = draft.root.children.iter().map(|child| 1 + child.children.len()).sum();
-    let rows = random.pick(&[4_095, 4_096, 4_097, 4_098, 8_000]);
     let place = random.between(1, draft.root.children.len());
-    let leaves = (0..rows - 1 - inside as u32)
+    let leaves = (0..(rows - 1 - inside) as u32)
         .map(|number| Chunk::leaf((0x7000_0000 + number).to_be_bytes(), Vec::new()));
     draft.root.children.splice(place..place, leaves);
     if random.percent(20) {
@@ -105,6 +104,27 @@ pub fn plain_of(random: &mut Random, length: usize) -> Draft {
     seek.put(Entry::new(*b"SL", list));
     let voice = random.pick(&[Voice::Score, Voice::Pcm]);
     phrase_file(random, voice, items, seek)
+}
+
+/// A list of long rests, 4 bytes each in the plain form, near the most that a
+/// plain form may have; a last note or a short rest stands after them.
+pub fn rests_of(random: &mut Random) -> Draft {
+    let in_phrase = random.pick(&[43, 127, 129]);
+    let letters = 16_383 / in_phrase + random.between(0, 2) - 1;
+    let mut items = vec![item(16_511, &NOP); in_phrase];
+    let border = items.concat().len() as u32;
+    items.push(item(0, &[0x69, 0x01]));
+    items.push(item(1, &NOP));
+    let end = items.concat().len() as u32;
+    let mut seek = SeekPlan::default();
+    seek.put(Entry::phrase(b'K', 0, border));
+    seek.put(Entry::phrase(b'I', border, end));
+    let mut list = vec![b'K'; letters];
+    if random.percent(50) {
+        list.insert(random.between(0, letters), b'I');
+    }
+    seek.put(Entry::new(*b"SL", list));
+    phrase_file(random, Voice::Score, items, seek)
 }
 
 /// A list that plays exactly `rows` rows.

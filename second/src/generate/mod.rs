@@ -18,6 +18,7 @@ use crate::case::{Case, Operation};
 use crate::generate::damage::{damaged, file_clauses};
 use crate::generate::file::FilePlan;
 use crate::random::Random;
+use crate::refusal::Clause;
 
 /// How many cases of an operation come before the large ones come again.
 const PERIOD: u64 = 4_000;
@@ -26,11 +27,10 @@ const PERIOD: u64 = 4_000;
 pub fn case(operations: &[Operation], seed: u64, number: u64) -> Case {
     let count = operations.len() as u64;
     let operation = operations[(number % count) as usize];
-    let mut random = Random::for_index(seed, number);
+    let mut random = Random::for_index(seed ^ u64::from(operation.letter()) << 32, number);
     let slot = number / count % PERIOD;
     match operation {
         Operation::Pitch => pitch_case(random.byte(), random.byte()),
-        _ if slot == 3_007 => over_largest(&mut random, operation),
         _ => {
             let file = any_file(&mut random, operation, slot);
             call::call(&mut random, operation, file)
@@ -53,24 +53,22 @@ pub fn all_pitches() -> impl Iterator<Item = Case> {
     (0..=255).flat_map(|event| (0..=255).map(move |shift| pitch_case(event, shift)))
 }
 
-/// A stated length over the most that a file may have, all in the buffer.
-fn over_largest(random: &mut Random, operation: Operation) -> Case {
-    let length = random.pick(&[65_537, 65_538, 70_000]);
-    let buffer = large::full_file(random, length).bytes(random);
-    let stated = if operation == Operation::Listing { 0 } else { buffer.len() as u32 };
-    Case { operation, stated, row: 2, room: 100, buffer }
-}
-
 /// The file of a case; large ones have their slots in the period.
 pub fn any_file(random: &mut Random, operation: Operation, slot: u64) -> Vec<u8> {
-    let around = random.between(0, 4);
+    let (below, above) = (random.between(0, 2), random.between(1, 2));
     let draft = match slot {
-        7 => large::many_chunks(random),
+        7 => large::many_chunks(random, 4_096 + above),
+        1_757 => large::many_chunks(random, 4_096 - below),
+        2_757 => large::many_chunks(random, 8_000),
         1_007 => large::long_list(random),
         2_007 => large::full_file(random, 65_536),
-        1_507 if operation == Operation::Play => large::rows_of(random, 69_998 + around),
-        507 | 3_507 => large::rows_of(random, 4_094 + around),
-        250 | 2_250 => large::plain_of(random, 65_534 + around),
+        1_257 | 3_007 => large::full_file(random, 65_536 + 1_000 * below + above),
+        1_250 | 3_250 => large::rests_of(random),
+        1_507 if operation == Operation::Play => large::rows_of(random, 69_998 + below + above),
+        507 => large::rows_of(random, 4_096 + above),
+        3_507 => large::rows_of(random, 4_096 - below),
+        250 => large::plain_of(random, 65_536 + above),
+        2_250 => large::plain_of(random, 65_536 - below),
         _ => return small_file(random),
     };
     draft.bytes(random)
@@ -87,11 +85,15 @@ fn small_file(random: &mut Random) -> Vec<u8> {
             damaged(random, plan, &[clause]).bytes(random)
         }
         74..=81 => {
-            let several: Vec<_> =
-                (0..random.between(2, 4)).map(|_| random.pick(&clauses)).collect();
+            let several = several_clauses(random, &clauses);
             damaged(random, plan, &several).bytes(random)
         }
-        82..=88 => {
+        82..=84 => {
+            let mut plan = plan;
+            mutate::change_plan(random, &mut plan);
+            plan.draft().bytes(random)
+        }
+        85..=88 => {
             let mut draft = plan.draft();
             mutate::change_tree(random, &mut draft);
             draft.bytes(random)
@@ -103,6 +105,19 @@ fn small_file(random: &mut Random) -> Vec<u8> {
         }
         _ => bytes_changed(random, plan, kind),
     }
+}
+
+/// A few clauses; often ones that stand close together in the table, so that
+/// the order of the checks shows.
+fn several_clauses(random: &mut Random, clauses: &[Clause]) -> Vec<Clause> {
+    let count = random.between(2, 4);
+    let close = random.percent(60);
+    let start = random.below(clauses.len());
+    let index = |random: &mut Random| match close {
+        true => (start + random.below(24)) % clauses.len(),
+        false => random.below(clauses.len()),
+    };
+    (0..count).map(|_| clauses[index(random)]).collect()
 }
 
 fn bytes_changed(random: &mut Random, plan: FilePlan, kind: usize) -> Vec<u8> {

@@ -1,5 +1,6 @@
 //! Mutations: changes without a plan, to chunks and to bytes.
 
+use crate::generate::file::FilePlan;
 use crate::generate::tree::{put_code, Chunk, Draft};
 use crate::random::Random;
 
@@ -22,6 +23,23 @@ pub fn change_bytes(random: &mut Random, bytes: &mut Vec<u8>) {
             2 if place < bytes.len() => bytes[place] ^= 1 << random.below(8),
             _ if place < bytes.len() => bytes[place] = value,
             _ => bytes.push(value),
+        }
+    }
+}
+
+/// Changes a track in ways that keep its bytes whole and mislead a reader.
+pub fn change_plan(random: &mut Random, plan: &mut FilePlan) {
+    let track = plan.track(random, None, None);
+    match random.below(4) {
+        0 => track.fixed[1] ^= 1,
+        1 => track.id[0] = if track.id[0] == b'M' { b'A' } else { b'M' },
+        2 => {
+            let place = random.between(0, track.sequence.items.len());
+            track.sequence.items.insert(place, vec![0; random.between(1, 5)]);
+        }
+        _ => {
+            track.sequence.end_mark = random.percent(30);
+            track.sequence.tail = vec![0; random.between(1, 5)];
         }
     }
 }
