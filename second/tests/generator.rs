@@ -2,15 +2,18 @@
 //! what is accepted holds together.
 
 use second::case::Operation;
+use second::check::{plain_plays_the_same, rows_tile};
 use second::clauses::{count, missing};
 use second::file::open;
 use second::generate::damage::{damaged, file_clauses};
 use second::generate::file::FilePlan;
 use second::generate::{all_pitches, case};
+use second::plain::flatten;
 use second::play::Performance;
 use second::random::Random;
 use second::refusal::Clause;
 use second::soak::soak;
+use second::tune::worked_tune;
 
 #[test]
 fn undamaged_files_are_accepted() {
@@ -93,6 +96,43 @@ fn answers_hold_together() {
     assert!(tally.accepted > 1_000);
     assert!(tally.played > 1_000);
     assert!(tally.flattened > 1_000);
+}
+
+#[test]
+fn wrong_plain_forms_are_found() {
+    let tune = worked_tune();
+    let track = &open(&tune, 102).unwrap().tracks[0].1;
+    let plain = flatten(&tune, 102, 2, 27).unwrap();
+    let check = |plain: &[u8]| plain_plays_the_same(&tune, track, plain);
+    assert_eq!(check(&plain), Ok(()));
+    assert_eq!(
+        check(&plain[..23]).unwrap_err(),
+        "the plain form has another length than worked out"
+    );
+    let changed = |place: usize, value: u8| {
+        let mut other = plain.clone();
+        other[place] = value;
+        check(&other).unwrap_err()
+    };
+    assert_eq!(changed(5, 0x2A), "the plain form plays something else");
+    assert_eq!(changed(6, 0x15), "the plain form plays something else");
+    assert_eq!(changed(4, 0x0B), "the plain form ends elsewhere");
+    assert!(changed(5, 0x2D).starts_with("the plain form is no sequence"));
+}
+
+#[test]
+fn wrong_rows_are_found() {
+    let tune = worked_tune();
+    let melody = open(&tune, 102).unwrap();
+    assert_eq!(rows_tile(&melody, 102), Ok(()));
+    for number in 1..5 {
+        let mut other = melody.clone();
+        other.rows[number].size += 1;
+        assert!(rows_tile(&other, 102).is_err(), "row {number}");
+        let mut other = melody.clone();
+        other.rows.remove(number);
+        assert!(rows_tile(&other, 102).is_err(), "row {number}");
+    }
 }
 
 #[test]

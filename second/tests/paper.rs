@@ -184,3 +184,87 @@ fn words_of_every_kind() {
     let file = pcm(STREAM, &[(b"Awa\x01", &[]), (b"Atsq", &[1, 0xFE, 0xFF, 0x7F])]);
     assert_eq!(played(&file).0, [(1, 2 << 27 | 3 << 25 | 62 << 17 | 16_511 << 2)]);
 }
+
+fn accepts(voice: Voice, body: &[u8]) -> bool {
+    read_sequence(body, voice).is_ok()
+}
+
+#[test]
+fn every_first_byte_of_an_event() {
+    for first in 1..=254_u8 {
+        let note = (1..=12).contains(&(first % 16));
+        assert_eq!(accepts(Voice::Score, &[0, first, 1]), note, "{first:x}");
+        let wave = (1..=62).contains(&(first % 64));
+        assert_eq!(accepts(Voice::Pcm, &[0, first, 1]), wave, "{first:x}");
+    }
+    for second in 0..=255_u8 {
+        let event = [0, 0xFF, second, 3, 1, 1, 0xF7];
+        assert_eq!(accepts(Voice::Score, &event), second == 0xF0, "{second:x}");
+        assert_eq!(accepts(Voice::Pcm, &event[..3]), second == 0x00, "{second:x}");
+    }
+}
+
+#[test]
+fn every_control_and_value() {
+    for second in 0..=255_u8 {
+        let (form, bits) = (second / 16 % 4, second % 16);
+        let short = form < 3 && (1..=14).contains(&bits);
+        assert_eq!(accepts(Voice::Score, &[1, 0, second]), short, "{second:x}");
+        assert_eq!(accepts(Voice::Pcm, &[1, 0, second]), short && form < 2, "{second:x}");
+        for value in 0..=255_u8 {
+            let good = match bits {
+                _ if form < 3 => continue,
+                0x1 => true,
+                0x2 => value <= 4 || (0x81..=0x84).contains(&value),
+                0x0 | 0x3 | 0x4 | 0x7 | 0xA | 0xB => value < 0x80,
+                _ => false,
+            };
+            let in_pcm = good && bits > 3;
+            assert_eq!(accepts(Voice::Score, &[1, 0, second, value]), good);
+            assert_eq!(accepts(Voice::Pcm, &[1, 0, second, value]), in_pcm);
+        }
+    }
+}
+
+#[test]
+fn every_size_of_an_exclusive() {
+    for size in 0..=255_u8 {
+        let mut body = vec![0, 0xFF, 0xF0, size];
+        body.extend(vec![0xF7; usize::from(size)]);
+        assert_eq!(accepts(Voice::Score, &body), size >= 3, "{size}");
+        body.pop();
+        assert!(!accepts(Voice::Score, &body), "{size}");
+    }
+}
+
+/// The three tables as rules: steps of 8, with the bends of modulation's last
+/// three and expression's first.
+#[test]
+fn short_forms_in_standard_values() {
+    let modulation = |bits: u8| [0x60, 0x70, 0x7F].get(bits as usize - 12).copied();
+    for bits in 1..=14_u8 {
+        let modulation = if bits < 12 { 8 * (bits - 1) } else { modulation(bits).unwrap() };
+        let pitch_bend = 8 * bits;
+        let expression = if bits == 1 { 0 } else { 0x1F + 8 * (bits - 2) };
+        let body = [0x00, 0x00, 0x20 | bits, 0x00, 0x00, 0x10 | bits, 0x00, 0x00, bits];
+        let file = score(STREAM, &[(b"Mtsq", &body)]);
+        let expected = format!(
+            "step ms ch kind value gate\n0 0 0 modulation {modulation} 0\n\
+             0 0 0 pitchbend {pitch_bend} 0\n0 0 0 expression {expression} 0\nend 0 0\n"
+        );
+        assert_eq!(listing(&file).unwrap(), expected);
+    }
+}
+
+#[test]
+fn largest_file() {
+    let file = |length: usize| {
+        let track = score_track(STREAM, &[(b"Mtsq", &BODY)]);
+        let filling = length - 10 - 13 - track.len() - 8;
+        file_of(&[track, second::tune::chunk(b"OPDA", &vec![0; filling])])
+    };
+    assert_eq!(file(65_536).len(), 65_536);
+    assert_eq!(refusal(&file(65_536)), (0, 0));
+    assert_eq!(refusal(&file(65_537)), (1, 0));
+    assert!(listing(&file(65_536)).is_ok());
+}

@@ -1,6 +1,8 @@
 //! Damage to setup and sequence bodies.
 
-use crate::generate::event::{duration, exclusive_of, gate, length_bytes, short_byte, sound_byte};
+use crate::generate::event::{
+    duration, exclusive_of, gate, length_bytes, long_controls, short_byte, sound_byte,
+};
 use crate::generate::file::{setup_messages, FilePlan, TrackPlan};
 use crate::generate::sequence::{item, SequencePlan};
 use crate::item::Voice;
@@ -76,11 +78,10 @@ fn cut_item(random: &mut Random, voice: Voice, clause: Clause) -> Option<Vec<u8>
 }
 
 fn bad_item(random: &mut Random, voice: Voice, clause: Clause) -> Vec<u8> {
-    let high = || 0x80;
     let channel = random.byte_between(0, 3) << 6;
     let event = match clause {
         Clause::DurationSecondByte => {
-            let duration = [high() | random.byte(), high() | random.byte()];
+            let duration = [0x80 | random.byte(), 0x80 | random.byte()];
             return [&duration[..], &[sound_byte(random, voice), 0x01]].concat();
         }
         Clause::NoteForbidden => forbidden_note(random),
@@ -88,7 +89,7 @@ fn bad_item(random: &mut Random, voice: Voice, clause: Clause) -> Vec<u8> {
         Clause::WaveNumberSixtyThree => vec![random.pick(&[0x3F, 0x7F, 0xBF]), 0x01],
         Clause::GateZero => vec![sound_byte(random, voice), 0x00],
         Clause::GateSecondByte => {
-            vec![sound_byte(random, voice), high() | random.byte(), high() | random.byte()]
+            vec![sound_byte(random, voice), 0x80 | random.byte(), 0x80 | random.byte()]
         }
         Clause::ShortValueZero => return zero_short(random, voice),
         Clause::ShortValueFifteen => vec![0x00, short_byte(random, voice, 15)],
@@ -96,9 +97,7 @@ fn bad_item(random: &mut Random, voice: Voice, clause: Clause) -> Vec<u8> {
             let bits = random.pick(&[0x5, 0x6, 0x8, 0x9, 0xC, 0xD, 0xE, 0xF]);
             vec![0x00, channel | 0x30 | bits, 0x01]
         }
-        Clause::ValueOver127 => {
-            vec![0x00, channel | random.pick(&[0x34, 0x37, 0x3A, 0x3B]), high() | random.byte()]
-        }
+        Clause::ValueOver127 => large_value(random, voice),
         Clause::ShiftReserved => {
             let near = [0x05, 0x7F, 0x80, 0x85, 0xFF];
             vec![0x00, channel | 0x32, random.pick(&near)]
@@ -110,6 +109,15 @@ fn bad_item(random: &mut Random, voice: Voice, clause: Clause) -> Vec<u8> {
         _ => vec![0xFF, random.pick(&[0x01, 0x0F, 0x7F, 0xEF, 0xF1, 0xF7, 0xFF]), 0x03, 0x01],
     };
     item(duration(random), &event)
+}
+
+fn large_value(random: &mut Random, voice: Voice) -> Vec<u8> {
+    let mut controls = long_controls(voice).to_vec();
+    controls.retain(|bits| ![0x1, 0x2].contains(bits));
+    let channel = random.byte_between(0, 3) << 6;
+    let any = 0x80 | random.byte();
+    let value = random.pick(&[0x80, 0x81, 0xFF, any]);
+    vec![0x00, channel | 0x30 | random.pick(&controls), value]
 }
 
 fn forbidden_note(random: &mut Random) -> Vec<u8> {
