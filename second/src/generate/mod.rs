@@ -30,12 +30,18 @@ pub fn case(operations: &[Operation], seed: u64, number: u64) -> Case {
     let mut random = Random::for_index(seed ^ u64::from(operation.letter()) << 32, number);
     let slot = number / count % PERIOD;
     match operation {
-        Operation::Pitch => pitch_case(random.byte(), random.byte()),
+        Operation::Pitch => any_pitch(&mut random),
         _ => {
             let file = any_file(&mut random, operation, slot);
             call::call(&mut random, operation, file)
         }
     }
+}
+
+fn any_pitch(random: &mut Random) -> Case {
+    let shifts = [0x00, 0x01, 0x04, 0x05, 0x7F, 0x80, 0x81, 0x84, 0x85];
+    let shift = if random.percent(60) { random.pick(&shifts) } else { random.byte() };
+    pitch_case(random.byte(), shift)
 }
 
 pub fn pitch_case(event: u8, shift: u8) -> Case {
