@@ -1,0 +1,59 @@
+//! Which clauses refused how many of the generated cases.
+
+use crate::case::Operation;
+use crate::generate;
+use crate::progress::progress;
+use crate::refusal::Clause;
+use std::collections::BTreeMap;
+
+/// Whether a case of the operation can be refused by the clause.
+pub fn applies(clause: Clause, operation: Operation) -> bool {
+    match clause {
+        Clause::LengthPastBuffer => !matches!(operation, Operation::Listing | Operation::Pitch),
+        Clause::RowOfSomethingElse | Clause::RowPastLast => {
+            matches!(operation, Operation::Play | Operation::Flatten)
+        }
+        Clause::NoReadableTrack => operation == Operation::Listing,
+        Clause::OrderListMissing => {
+            matches!(operation, Operation::Play | Operation::Flatten | Operation::Listing)
+        }
+        Clause::ReadTableShort => matches!(operation, Operation::Read | Operation::Listing),
+        Clause::PlayTableShort => matches!(operation, Operation::Play | Operation::Listing),
+        Clause::PlainOverLargest | Clause::PlainOverBuffer => operation == Operation::Flatten,
+        Clause::PitchNotNote | Clause::PitchShiftReserved => operation == Operation::Pitch,
+        _ => operation != Operation::Pitch,
+    }
+}
+
+/// How many of the cases each clause refused; None stands for accepted.
+pub fn count(operations: &[Operation], cases: u64, seed: u64) -> BTreeMap<Option<Clause>, u64> {
+    let mut counts = BTreeMap::new();
+    for number in 0..cases {
+        let answer = generate::case(operations, seed, number).answer();
+        *counts.entry(answer.err().map(|refusal| refusal.clause)).or_insert(0) += 1;
+        progress(number + 1, "cases");
+    }
+    counts
+}
+
+/// The clauses that apply to the operations and refused nothing.
+pub fn missing(operations: &[Operation], counts: &BTreeMap<Option<Clause>, u64>) -> Vec<Clause> {
+    let due = |clause: &Clause| {
+        operations.iter().any(|operation| applies(*clause, *operation))
+            && !counts.contains_key(&Some(*clause))
+    };
+    Clause::ALL.iter().copied().filter(due).collect()
+}
+
+/// One line for each clause that applies.
+pub fn table(operations: &[Operation], counts: &BTreeMap<Option<Clause>, u64>) -> String {
+    let accepted = counts.get(&None).unwrap_or(&0);
+    let mut text = format!("{accepted:8} accepted\n");
+    for clause in Clause::ALL {
+        if operations.iter().any(|operation| applies(*clause, *operation)) {
+            let count = counts.get(&Some(*clause)).unwrap_or(&0);
+            text.push_str(&format!("{count:8} {:2} {clause:?}\n", clause.number()));
+        }
+    }
+    text
+}

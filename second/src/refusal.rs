@@ -1,0 +1,75 @@
+//! Refusals: a number and a place, and inside the program the clause of the
+//! paper that refused.
+
+macro_rules! clauses {
+    ($($number:literal: $($name:ident)*;)*) => {
+        /// Every separate clause of the table of refusals.
+        #[derive(Clone, Copy, Debug, PartialEq, Eq, Hash, PartialOrd, Ord)]
+        pub enum Clause { $($($name,)*)* }
+
+        impl Clause {
+            pub const ALL: &'static [Clause] = &[$($(Clause::$name,)*)*];
+
+            pub fn number(self) -> u32 {
+                match self { $($(Clause::$name => $number,)*)* }
+            }
+        }
+    };
+}
+
+clauses! {
+    1: LengthPastBuffer LengthPastLargest;
+    2: FileUnderTen FileNotMmmd;
+    3: FileSizeTooSmall FileSizeTooLarge;
+    4: TopHeaderUnderEight TopSizePastEnd TrackHeaderUnderEight TrackSizePastEnd;
+    6: TopIdAgain TrackIdAgain;
+    5: NoFirstChunk FirstNotContents ContentsUnderFive;
+    7: NoTrack;
+    8: ScoreEmpty ScoreFormatOverTwo ScoreUnderSix ScoreSequenceType ScoreTimeBaseD
+       ScoreTimeBaseG PcmEmpty PcmFormatOverZero PcmUnderSix PcmSequenceType
+       PcmTimeBaseD PcmTimeBaseG;
+    9: ScoreChunkNotAllowed PcmChunkNotAllowed ScoreSequenceMissing PcmSequenceMissing
+       WaveMissing;
+    10: SetupEmpty SetupNotExclusive SetupSizeUnderThree SetupCut SetupWithoutEnd;
+    11: SequenceEmpty DurationCut DurationSecondByte EventCut NoteForbidden WaveNumberZero
+        WaveNumberSixtyThree GateZero GateCut GateSecondByte ShortValueZero
+        ShortValueFifteen ControlReserved ControlCut ControlValueCut ValueOver127
+        ShiftReserved PcmForbidsControl PcmForbidsShort ExclusiveSizeUnderThree
+        ExclusiveCut ExclusiveWithoutEnd OtherFullEvent BytesAfterEndMark;
+    12: SeekEmpty TagCut TagUnknown ColonMissing DataCut SeparatorWrong TagTwice
+        TagOutOfOrder LetterOutsideSet;
+    13: StreamStartNoAddress StreamStopNoAddress StreamStartOverStop PhraseStartNoAddress
+        PhraseStopNoAddress PhraseStartOverStop PositionStartOverLength
+        PositionStopOverLength PositionStartOverStop;
+    14: LetterWithoutPhrase;
+    16: RowOfSomethingElse RowPastLast NoReadableTrack;
+    17: OrderListMissing;
+    15: ReadTableShort PlayTableShort;
+    18: PlainOverLargest PlainOverBuffer;
+    19: PitchNotNote PitchShiftReserved;
+}
+
+#[derive(Clone, Copy, Debug, PartialEq, Eq)]
+pub struct Refusal {
+    pub clause: Clause,
+    pub place: usize,
+}
+
+impl Refusal {
+    pub fn at(clause: Clause, place: usize) -> Refusal {
+        Refusal { clause, place }
+    }
+
+    pub fn number(&self) -> u32 {
+        self.clause.number()
+    }
+
+    /// The same refusal, its place counted from where the body starts.
+    pub fn in_body_at(self, start: usize) -> Refusal {
+        Refusal::at(self.clause, self.place + start)
+    }
+
+    pub fn text(&self) -> String {
+        format!("refused {} {}\n", self.number(), self.place)
+    }
+}
