@@ -5,11 +5,12 @@ use mathlib.Core.Bool.{Bool, true, false, not}
 use mathlib.Core.List.{List}
 use native.Mathlib.Omega.{arith}
 use lib.ListN.{length}
-use borrow.Author.Tests.{lt-leb, le-leb}
+use borrow.Author.Tests.{lt-leb, le-leb, leb-true}
 use Rattle.model.specs.Words.{if_then_else_, _and_, _≤?_, _≡?_}
 use Rattle.model.specs.Duration.{notZero}
-use Rattle.model.specs.Event.{isNote, isWave, isSound, sound, gated, hasKind, eventAt}
-use Rattle.model.specs.Item.{withEvent, withDuration}
+use Rattle.model.specs.Event.{isNote, isWave, isSound, sound, gated, hasKind, longAt, eventAt}
+use Rattle.model.specs.Item.{withEvent, withDuration, isEndMark}
+use Rattle.model.proofs.Tests.{and-left}
 use Rattle.model.specs.declared.Voice.{Voice}
 use Rattle.model.specs.declared.Voice.the-variants.{Score, Pcm}
 use Rattle.model.specs.declared.Event.{Event}
@@ -88,6 +89,16 @@ pub has-kind-pcm : (voice : Voice) (kind : ℕ) (z : Bool) → voice ≡ Pcm →
 unfolding hasKind
 has-kind-pcm voice kind z p h = rw p h
 
+-- a kind that a callee found
+pub long-at-kind : (voice : Voice) (s : List ℕ) (at channel k l : ℕ) (z : ReadEvent) → k ≡ l → z ≡ longAt voice s at channel k
+    → z ≡ longAt voice s at channel l
+long-at-kind voice s at channel k l z p h = rw (← p) h
+
+-- an end mark is within the body
+pub end-mark-within : (s : List ℕ) (at : ℕ) → isEndMark s at ≡ true → at + 4 ≤ length s
+unfolding isEndMark
+end-mark-within s at h = leb-true (at + 4) (length s) (and-left _ _ h)
+
 -- the room for an end mark, as the code tests it
 
 pub room-short : (s : List ℕ) (at : ℕ) → length s < 4 → (at + 4 ≤? length s) ≡ false
@@ -99,6 +110,6 @@ room-past s at h = lt-leb (at + 4) (length s) (omega arith)
 pub room-left : (s : List ℕ) (at : ℕ) → 4 ≤ length s → at ≤ length s - 4 → (at + 4 ≤? length s) ≡ true
 room-left s at h g = le-leb (at + 4) (length s) (omega arith)
 
-pub ruleset matches = (not-zero-is, not-zero-refused, gated-is, gated-refused, with-event-is, with-event-refused, with-duration-is, with-duration-refused, is-sound-score, is-sound-pcm, sound-score, sound-pcm, has-kind-score, has-kind-pcm)
+pub ruleset matches = (not-zero-is, not-zero-refused, gated-is, gated-refused, with-event-is, with-event-refused, with-duration-is, with-duration-refused, is-sound-score, is-sound-pcm, sound-score, sound-pcm, has-kind-score, has-kind-pcm, long-at-kind)
 
 pub ruleset rooms = (room-short, room-past, room-left)

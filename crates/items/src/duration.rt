@@ -24,16 +24,17 @@ pub fn read_duration(s: &[u8], at: usize) -> ReadDuration
         return ReadDuration::Refused;
     }
     let one = s[at];
+    let next = at + 1;
     if one < 128 {
         return ReadDuration::Is {
             value: wide(one),
-            next: at + 1,
+            next,
         };
     }
-    if s.len() <= at + 1 {
+    if s.len() <= next {
         return ReadDuration::Refused;
     }
-    let two = s[at + 1];
+    let two = s[next];
     if two < 128 {
         return ReadDuration::Is {
             value: two_byte_value(one, two),

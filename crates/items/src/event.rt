@@ -3,11 +3,11 @@ ghost use mathlib.Core.Path.{_≡_};
 ghost use Prim.Native.Nat.{_+_, _<_};
 ghost use lib.ListN.{length};
 ghost use Rattle.model.specs.Event.{isNote, isWave, isSound, sound, soundAt, longKind, shortKind, hasKind, isShift, isValue, longAt, shortAt, formed, controlAt, closedAt, exclusiveAt, systemAt, eventAt, standardValue};
+use super::duration::read_gate;
 use model::Event;
 use model::ReadDuration;
 use model::ReadEvent;
 use model::Voice;
-use super::duration::read_gate;
 
 pub fn is_note(low: u8) -> bool
     ensures { λ r. ⌜ r ≡ isNote low ⌝ }

@@ -1,12 +1,12 @@
 // Items and end marks.
 ghost use mathlib.Core.Path.{_≡_};
 ghost use Rattle.model.specs.Item.{isEndMark, withEvent, withDuration, itemAt};
+use super::duration::read_duration;
+use super::event::read_event;
 use model::ReadDuration;
 use model::ReadEvent;
 use model::ReadItem;
 use model::Voice;
-use super::duration::read_duration;
-use super::event::read_event;
 
 fn is_end_mark(s: &[u8], at: usize) -> bool
     ensures { λ r. ⌜ r ≡ isEndMark (now (s .entry)) at ⌝ }

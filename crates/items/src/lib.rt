@@ -1,11 +1,10 @@
 // The items of a sequence body, read at a place: durations and gate times, events of both voices, items, whole bodies and setup bodies.
 // Each reader answers what the definition of its name in model/specs says, for any bytes and any place.
 mod duration;
-
 mod event;
-
 mod item;
 
-pub use duration::{read_duration, read_gate};
+pub use duration::read_duration;
+pub use duration::read_gate;
 pub use event::read_event;
 pub use item::read_item;

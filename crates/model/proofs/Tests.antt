@@ -76,7 +76,9 @@ not-on t h = rw h
 pub not-off : (t : Bool) → t ≡ true → not t ≡ false
 not-off t h = rw h
 
-pub ruleset tests = (if-yes, if-no, and-off, and-on, or-on, or-off, both-true, first-false, second-false, first-true, second-true, neither-true, flag-on, flag-off, is-on, is-off, not-on, not-off, le-ltb, lt-ltb, le-leb, lt-leb, eq-eqb, ne-eqb)
+pub ruleset tests = (if-yes, if-no, flag-on, flag-off, is-on, is-off, le-ltb, lt-ltb, le-leb, lt-leb, eq-eqb, ne-eqb)
+
+pub ruleset junctions = (and-off, and-on, or-on, or-off, both-true, first-false, second-false, first-true, second-true, neither-true, not-on, not-off)
 
 -- a choice whose test is known
 pub if-true : {A : Type 0} (b : Bool) (x y : A) → b ≡ true → (if b then x else y) ≡ x

@@ -17,45 +17,37 @@ returns c = search tests depth 9 fits 20000
 shared-slice-read-one : tie.Need-shared-slice-read-one
 shared-slice-read-one c = search needs
 
--- src/duration.rt:29:20
+-- src/duration.rt:27:16
+add-next : tie.Need-add-next
+add-next c = search needs
+
+-- src/duration.rt:30:20
 wide-requires : tie.Need-wide-requires
 wide-requires c κs = search needs
 
--- src/duration.rt:30:19
-add-t10 : tie.Need-add-t10
-add-t10 c = search needs
-
--- src/duration.rt:28:9
+-- src/duration.rt:29:9
 returns-2 : tie.Need-returns-2
 unfolding durationAt
 returns-2 c = search tests depth 9 fits 20000
 
--- src/duration.rt:33:19
-add-if3 : tie.Need-add-if3
-add-if3 c = search needs
-
--- src/duration.rt:34:9
+-- src/duration.rt:35:9
 returns-3 : tie.Need-returns-3
 unfolding durationAt
 returns-3 c = search tests depth 9 fits 20000
 
--- src/duration.rt:36:17
-add-two : tie.Need-add-two
-add-two c = search needs
-
--- src/duration.rt:36:15
+-- src/duration.rt:37:15
 shared-slice-read-two : tie.Need-shared-slice-read-two
 shared-slice-read-two c = search needs
 
--- src/duration.rt:39:20
+-- src/duration.rt:40:20
 two-byte-value-requires : tie.Need-two-byte-value-requires
 two-byte-value-requires c κs = search needs
 
--- src/duration.rt:40:19
-add-t14 : tie.Need-add-t14
-add-t14 c = search needs
+-- src/duration.rt:41:19
+add-t13 : tie.Need-add-t13
+add-t13 c = search needs
 
--- src/duration.rt:38:9
+-- src/duration.rt:39:9
 returns-4 : tie.Need-returns-4
 unfolding durationAt
 returns-4 c = search tests depth 9 fits 20000
@@ -71,14 +63,12 @@ read-duration-spec =
     (tie.spec
     returns
     shared-slice-read-one
+    add-next
     wide-requires
-    add-t10
     returns-2
-    add-if3
     returns-3
-    add-two
     shared-slice-read-two
     two-byte-value-requires
-    add-t14
+    add-t13
     returns-4
     returns-5)

@@ -1,3 +1,4 @@
+use Rattle.model.proofs.Tests.{junctions}
 use Rattle.model.proofs.Tests.{tests}
 use Rattle.items.proofs.Matches.{matches}
 use borrow.Author.Needs.{needs}
@@ -16,15 +17,15 @@ enum-told-2 c = search needs
 
 -- src/event.rt:90:17
 returns : tie.Need-returns
-returns c = search (tests, matches) depth 9 fits 20000
+returns c = search (tests, junctions, matches) depth 9 fits 20000
 
 -- src/event.rt:83:1
 returns-2 : tie.Need-returns-2
-returns-2 c = search (tests, matches) depth 9 fits 20000
+returns-2 c = search (tests, junctions, matches) depth 9 fits 20000
 
 -- src/event.rt:83:1
 returns-3 : tie.Need-returns-3
-returns-3 c = search (tests, matches) depth 9 fits 20000
+returns-3 c = search (tests, junctions, matches) depth 9 fits 20000
 
 pub has-kind-spec : {M : Type 1} → statement M
 has-kind-spec = tie.close (tie.spec enum-told enum-told-2 returns returns-2 returns-3)

@@ -1,3 +1,4 @@
+use Rattle.model.proofs.Tests.{junctions}
 use Rattle.model.proofs.Tests.{tests}
 use Rattle.model.specs.Event.{isNote}
 use Rattle.items.proofs.event.is_note.Statement.{statement}
@@ -8,12 +9,12 @@ use Rattle.items.proofs.event.is_note.Lts as lts
 -- src/event.rt:16:9
 returns : tie.Need-returns
 unfolding isNote
-returns c = search tests depth 9 fits 20000
+returns c = search (tests, junctions) depth 9 fits 20000
 
 -- src/event.rt:12:1
 returns-2 : tie.Need-returns-2
 unfolding isNote
-returns-2 c = search tests depth 9 fits 20000
+returns-2 c = search (tests, junctions) depth 9 fits 20000
 
 pub is-note-spec : {M : Type 1} → statement M
 is-note-spec = tie.close (tie.spec returns returns-2)

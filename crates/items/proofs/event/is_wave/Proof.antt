@@ -1,3 +1,4 @@
+use Rattle.model.proofs.Tests.{junctions}
 use Rattle.model.proofs.Tests.{tests}
 use Rattle.model.specs.Event.{isWave}
 use Rattle.items.proofs.event.is_wave.Statement.{statement}
@@ -8,12 +9,12 @@ use Rattle.items.proofs.event.is_wave.Lts as lts
 -- src/event.rt:25:9
 returns : tie.Need-returns
 unfolding isWave
-returns c = search tests depth 9 fits 20000
+returns c = search (tests, junctions) depth 9 fits 20000
 
 -- src/event.rt:21:1
 returns-2 : tie.Need-returns-2
 unfolding isWave
-returns-2 c = search tests depth 9 fits 20000
+returns-2 c = search (tests, junctions) depth 9 fits 20000
 
 pub is-wave-spec : {M : Type 1} → statement M
 is-wave-spec = tie.close (tie.spec returns returns-2)

@@ -1,3 +1,4 @@
+use Rattle.items.proofs.Matches.{matches}
 use Rattle.model.proofs.Tests.{tests}
 use Rattle.model.specs.Event.{formed}
 use borrow.Author.Needs.{needs}
@@ -20,7 +21,7 @@ read-long-requires c κs = search needs
 -- src/event.rt:179:9
 returns : tie.Need-returns
 unfolding formed
-returns c = search tests depth 9 fits 20000
+returns c = search (tests, matches) depth 9 fits 20000
 
 -- src/event.rt:181:38
 sub-read-short : tie.Need-sub-read-short
@@ -33,7 +34,7 @@ read-short-requires c κs = search needs
 -- src/event.rt:174:1
 returns-2 : tie.Need-returns-2
 unfolding formed
-returns-2 c = search tests depth 9 fits 20000
+returns-2 c = search (tests, matches) depth 9 fits 20000
 
 pub read-formed-spec : {M : Type 1} → statement M
 read-formed-spec =

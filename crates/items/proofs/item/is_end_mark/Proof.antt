@@ -1,3 +1,4 @@
+use Rattle.model.proofs.Tests.{junctions}
 use Rattle.model.proofs.Tests.{tests}
 use Rattle.items.proofs.Matches.{rooms}
 use Rattle.model.specs.Item.{isEndMark}
@@ -10,7 +11,7 @@ use Rattle.items.proofs.item.is_end_mark.Lts as lts
 -- src/item.rt:15:9
 returns : tie.Need-returns
 unfolding isEndMark
-returns c = search (tests, rooms) depth 12 fits 20000
+returns c = search (tests, junctions, rooms) depth 12 fits 20000
 
 -- src/item.rt:17:8
 sub-if2 : tie.Need-sub-if2
@@ -19,7 +20,7 @@ sub-if2 c = search needs
 -- src/item.rt:18:9
 returns-2 : tie.Need-returns-2
 unfolding isEndMark
-returns-2 c = search (tests, rooms) depth 12 fits 20000
+returns-2 c = search (tests, junctions, rooms) depth 12 fits 20000
 
 -- src/item.rt:20:8
 shared-slice-read-if3 : tie.Need-shared-slice-read-if3
@@ -28,7 +29,7 @@ shared-slice-read-if3 c = search needs
 -- src/item.rt:21:9
 returns-3 : tie.Need-returns-3
 unfolding isEndMark
-returns-3 c = search (tests, rooms) depth 12 fits 20000
+returns-3 c = search (tests, junctions, rooms) depth 12 fits 20000
 
 -- src/item.rt:23:10
 add-if4 : tie.Need-add-if4
@@ -41,7 +42,7 @@ shared-slice-read-if4 c = search needs
 -- src/item.rt:24:9
 returns-4 : tie.Need-returns-4
 unfolding isEndMark
-returns-4 c = search (tests, rooms) depth 12 fits 20000
+returns-4 c = search (tests, junctions, rooms) depth 12 fits 20000
 
 -- src/item.rt:26:10
 add-if5 : tie.Need-add-if5
@@ -54,7 +55,7 @@ shared-slice-read-if5 c = search needs
 -- src/item.rt:27:9
 returns-5 : tie.Need-returns-5
 unfolding isEndMark
-returns-5 c = search (tests, rooms) depth 12 fits 20000
+returns-5 c = search (tests, junctions, rooms) depth 12 fits 20000
 
 -- src/item.rt:29:7
 add-result : tie.Need-add-result
@@ -67,7 +68,7 @@ shared-slice-read-result c = search needs
 -- src/item.rt:11:1
 returns-6 : tie.Need-returns-6
 unfolding isEndMark
-returns-6 c = search (tests, rooms) depth 12 fits 20000
+returns-6 c = search (tests, junctions, rooms) depth 12 fits 20000
 
 pub is-end-mark-spec : {M : Type 1} → statement M
 is-end-mark-spec =

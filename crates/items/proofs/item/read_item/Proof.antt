@@ -1,3 +1,6 @@
+use native.Mathlib.Omega.{arith}
+use mathlib.Core.Path.{sym, _∙_}
+use Rattle.items.proofs.Matches.{end-mark-within}
 use Rattle.model.proofs.Tests.{tests}
 use Rattle.items.proofs.Matches.{matches}
 use Rattle.model.specs.Item.{itemAt}
@@ -16,7 +19,7 @@ is-end-mark-requires c κs = search needs
 
 -- src/item.rt:36:42
 add-t9 : tie.Need-add-t9
-add-t9 c = ?
+add-t9 c = omega (arith, end-mark-within _ _ (sym (c .before .is-end-mark .ensures) ∙ c .if1 .taken))
 
 -- src/item.rt:36:9
 returns : tie.Need-returns
