@@ -15,6 +15,7 @@ pub mod Word
 pub mod Order
 pub mod Plain
 pub mod Content
+pub mod Writing
 pub mod Pitch
 pub mod Answer
 pub mod Stretch

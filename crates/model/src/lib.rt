@@ -107,6 +107,13 @@ pub enum ReadEntry {
     Refused,
 }
 
+// An item written into lent memory: the place after it, or nothing written, for want of room or because it is no item of the voice.
+pub enum Put {
+    Done { next: usize },
+    Full,
+    Unfit,
+}
+
 // The answer to a read: so many rows, the computed check code and whether the file holds it.
 pub enum ReadAnswer {
     Rows {
