@@ -1,9 +1,9 @@
 -- Paper, "Chunks": chunks and chunk lists. One reader serves every list; it is told which IDs are allowed there.
-use Prim.Native.Nat.{ℕ, zero, suc, _+_, _-_}
+use Prim.Native.Nat.{ℕ, suc, _+_, _-_}
 use mathlib.Core.List.{List, [], _∷_}
 use mathlib.Core.Bool.{Bool, true, false, not}
 use lib.ListN.{length}
-use Rattle.model.specs.Words.{if_then_else_, _<?_, _≤?_, _≡?_, any, Checked, Checked.fine, Checked.refused, passed, Walk, Walk.over, Walk.broken, Walk._then_, inTurn}
+use Rattle.model.specs.Words.{if_then_else_, _<?_, _≡?_, any, Checked, Checked.refused, passed, Walk, Walk.broken, Walk._then_, walkFrom, inTurn}
 use Rattle.model.specs.Bytes.{number, part}
 
 -- A chunk: its ID, the place of its header and the size of its body. The header is 4 bytes of ID and 4 of size.
@@ -25,15 +25,16 @@ placeAfter chunk = chunk .place + 8 + chunk .size
 abbrev pub bodyBytes : List ℕ → Chunk → List ℕ
 bodyBytes s chunk = part s (bodyPlace chunk) (chunk .size)
 
--- The chunks from a place up to a list's end. Under 8 bytes left for a header, or a size past the list's end, is refused with 4 at
--- that header. A chunk has 8 bytes and more, so one turn more than the list's end is never used up.
-unfoldable pub chunksFrom : ℕ → List ℕ → ℕ → ℕ → Walk Chunk
-chunksFrom zero s at end = broken 4 at
-chunksFrom (suc turns) s at end =
-    if end ≤? at then over else
+-- The chunks of a list that ends at a place. Under 8 bytes left for a header, or a size past the list's end, is refused with 4 at that
+-- header.
+unfoldable pub metChunk : List ℕ → ℕ → ℕ → (ℕ → Walk Chunk) → Walk Chunk
+metChunk s end at go =
     if end - at <? 8 then broken 4 at else
     if end - at - 8 <? number 4 s (at + 4) then broken 4 at else
-    chunkAt s at then chunksFrom turns s (placeAfter (chunkAt s at)) end
+    chunkAt s at then go (placeAfter (chunkAt s at))
+
+unfoldable pub chunksFrom : List ℕ → ℕ → ℕ → ℕ → Walk Chunk
+chunksFrom s end turns at = walkFrom 4 end (λ here go. metChunk s end here go) turns at
 
 -- Chunk by chunk, after 4: an ID that is not allowed is refused with 9, one that stood before in the list with 6.
 unfoldable pub allowedOnce : (ℕ → Bool) → List Chunk → Chunk → Checked (Unit {0})
@@ -43,4 +44,4 @@ allowedOnce allowed before chunk =
     passed
 
 unfoldable pub chunkList : (ℕ → Bool) → List ℕ → ℕ → ℕ → Checked (List Chunk)
-chunkList allowed s start end = inTurn (allowedOnce allowed) [] (chunksFrom (suc end) s start end)
+chunkList allowed s start end = inTurn (allowedOnce allowed) [] (chunksFrom s end (suc end) start)

@@ -1,9 +1,9 @@
 -- Paper, "Items": items read at a place, sequence bodies and setup bodies.
-use Prim.Native.Nat.{ℕ, zero, suc, _+_}
+use Prim.Native.Nat.{ℕ, suc, _+_}
 use mathlib.Core.List.{List, [], _∷_, map}
 use mathlib.Core.Bool.{Bool, true, false}
 use lib.ListN.{length}
-use Rattle.model.specs.Words.{if_then_else_, _and_, _<?_, _≤?_, _≡?_, sum, Placed, Checked, Checked.fine, Checked.refused, passed, Walk, Walk.over, Walk.broken, Walk._then_, inTurn}
+use Rattle.model.specs.Words.{if_then_else_, _and_, _<?_, _≤?_, _≡?_, sum, Placed, Checked, Checked.fine, Checked.refused, passed, Walk, Walk.broken, Walk._then_, walkFrom, inTurn}
 use Rattle.model.specs.Bytes.{_!_}
 use Rattle.model.specs.Duration.{durationAt}
 use Rattle.model.specs.Event.{eventAt, exclusiveAt}
@@ -52,18 +52,14 @@ durationOf endMark = 0
 unfoldable pub lasting : {E : Type 0} → List (Placed (Item E)) → ℕ
 lasting items = sum (map (λ item. durationOf (item .what)) items)
 
--- The items of a body from a place on, one after the other. Each ends past its place, so one turn more than there are bytes is
--- never used up.
+-- The items of a body, one after the other.
 unfoldable pub metItem : ℕ → ReadItem → (ℕ → Walk (Placed (Item Event))) → Walk (Placed (Item Event))
 metItem at (Timed duration event next) go = record { place = at; what = timed duration event } then go next
 metItem at (EndMark next) go = record { place = at; what = endMark } then go next
 metItem at (Refused number place) go = broken number place
 
-unfoldable pub itemsFrom : ℕ → Voice → List ℕ → ℕ → Walk (Placed (Item Event))
-itemsFrom zero voice s at = broken 11 at
-itemsFrom (suc turns) voice s at =
-    if length s ≤? at then over else
-    metItem at (itemAt voice s at) (λ next. itemsFrom turns voice s next)
+unfoldable pub itemsFrom : Voice → List ℕ → ℕ → ℕ → Walk (Placed (Item Event))
+itemsFrom voice s turns at = walkFrom 11 (length s) (λ here go. metItem here (itemAt voice s here) go) turns at
 
 -- The end mark must be the last: whatever follows it is refused with 11 at its first byte.
 unfoldable pub isMark : {E : Type 0} → Item E → Bool
@@ -81,7 +77,7 @@ notAfterEndMark before item = if afterEndMark before then refused 11 (item .plac
 unfoldable pub bodyOf : Voice → List ℕ → Checked (List (Placed (Item Event)))
 bodyOf voice s =
     if length s ≡? 0 then refused 11 0 else
-    inTurn notAfterEndMark [] (itemsFrom (suc (length s)) voice s 0)
+    inTurn notAfterEndMark [] (itemsFrom voice s (suc (length s)) 0)
 
 -- the answer to one walk of a body
 unfoldable pub bodyAnswer : Checked (List (Placed (Item Event))) → ReadBody
@@ -99,16 +95,13 @@ unfoldable pub metMessage : ℕ → ReadEvent → (ℕ → Walk Event) → Walk 
 metMessage at (event.Is what next) go = what then go next
 metMessage at event.Refused go = broken 10 at
 
-unfoldable pub setupFrom : ℕ → List ℕ → ℕ → Walk Event
-setupFrom zero s at = broken 10 at
-setupFrom (suc turns) s at =
-    if length s ≤? at then over else
-    metMessage at (setupMessageAt s at) (λ next. setupFrom turns s next)
+unfoldable pub setupFrom : List ℕ → ℕ → ℕ → Walk Event
+setupFrom s turns at = walkFrom 10 (length s) (λ here go. metMessage here (setupMessageAt s here) go) turns at
 
 unfoldable pub setupOf : List ℕ → Checked (List Event)
 setupOf s =
     if length s ≡? 0 then refused 10 0 else
-    inTurn (λ before message. passed) [] (setupFrom (suc (length s)) s 0)
+    inTurn (λ before message. passed) [] (setupFrom s (suc (length s)) 0)
 
 -- the answer where only a refusal counts
 unfoldable pub checkAnswer : {A : Type 0} → Checked A → Check

@@ -1,10 +1,10 @@
 -- Paper, "Points, phrases and the order list": the form of a seek body.
-use Prim.Native.Nat.{ℕ, zero, suc, _+_, _*_}
+use Prim.Native.Nat.{ℕ, suc, _+_, _*_}
 use mathlib.Core.List.{List, [], _∷_}
 use mathlib.Core.Bool.{Bool, true, false, not}
 use mathlib.Core.Option.{Option, none, some}
 use lib.ListN.{length, drop}
-use Rattle.model.specs.Words.{if_then_else_, _and_, _or_, _<?_, _≤?_, _≡?_, any, firstSaid, Placed, Checked, Checked.fine, Checked.refused, passed, Walk, Walk.over, Walk.broken, Walk._then_, inTurn}
+use Rattle.model.specs.Words.{if_then_else_, _and_, _or_, _<?_, _≤?_, _≡?_, any, firstSaid, Placed, Checked, Checked.refused, passed, Walk, Walk.over, Walk.broken, Walk._then_, walkFrom, inTurn}
 use Rattle.model.specs.Bytes.{_!_, number, part}
 use Rattle.model.specs.declared.ReadEntry.{ReadEntry}
 use Rattle.model.specs.declared.ReadEntry.the-variants.{Start, Stop, Phrase, Order, Refused}
@@ -60,9 +60,8 @@ entryAt width s at =
 unfoldable pub followed : List ℕ → ℕ → ℕ → Entry → (ℕ → Walk (Placed Entry)) → Walk (Placed Entry)
 followed s at next entry go =
     if length s ≤? next then record { place = at; what = entry } then over else
-    if not (s ! next ≡? 0x2C) then broken 12 at else
-    if length s ≤? next + 1 then record { place = at; what = entry } then over else
-    record { place = at; what = entry } then go (next + 1)
+    if s ! next ≡? 0x2C then record { place = at; what = entry } then go (next + 1) else
+    broken 12 at
 
 unfoldable pub metEntry : List ℕ → ℕ → ReadEntry → (ℕ → Walk (Placed Entry)) → Walk (Placed Entry)
 metEntry s at (Start value next) go = followed s at next (start value) go
@@ -71,10 +70,8 @@ metEntry s at (Phrase letter from to next) go = followed s at next (phrase lette
 metEntry s at (Order letters next) go = followed s at next (order (part s (at + 3) letters)) go
 metEntry s at Refused go = broken 12 at
 
-unfoldable pub entriesFrom : ℕ → ℕ → List ℕ → ℕ → Walk (Placed Entry)
-entriesFrom zero width s at = broken 12 at
-entriesFrom (suc turns) width s at =
-    metEntry s at (entryAt width s at) (λ next. entriesFrom turns width s next)
+unfoldable pub entriesFrom : ℕ → List ℕ → ℕ → ℕ → Walk (Placed Entry)
+entriesFrom width s turns at = walkFrom 12 (length s) (λ here go. metEntry s here (entryAt width s here) go) turns at
 
 -- Order: st, sp, phrases, SL; no tag twice.
 unfoldable pub rank : Entry → ℕ
@@ -93,7 +90,7 @@ inOrder before entry =
 unfoldable pub seekOf : ℕ → List ℕ → Checked (List (Placed Entry))
 seekOf width s =
     if length s ≡? 0 then refused 12 0 else
-    inTurn inOrder [] (entriesFrom (suc (length s)) width s 0)
+    inTurn inOrder [] (entriesFrom width s (suc (length s)) 0)
 
 -- What the entries say: the start and stop points, a letter's phrase, the order list.
 

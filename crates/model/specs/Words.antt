@@ -118,6 +118,12 @@ pub data Walk (A : Type 0) : Type 0 where
   broken : ℕ → ℕ → Walk A
   _then_ : A → Walk A → Walk A
 
+-- A walk from a place up to an end, where a step says what stands at a place, and goes on from the place after it. Every step ends past
+-- its place, so one turn more than there are places is never used up; if it were, that would be a refusal.
+unfoldable pub walkFrom : {A : Type 0} → ℕ → ℕ → (ℕ → (ℕ → Walk A) → Walk A) → ℕ → ℕ → Walk A
+walkFrom number end step zero at = broken number at
+walkFrom number end step (suc turns) at = if end ≤? at then over else step at (λ next. walkFrom number end step turns next)
+
 -- All that a walk meets, where each thing passes a check in the light of those before it, the latest first.
 unfoldable pub inTurn : {A : Type 0} → (List A → A → Checked (Unit {0})) → List A → Walk A → Checked (List A)
 inTurn check before over = fine []
