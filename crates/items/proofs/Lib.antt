@@ -1,1 +1,4 @@
 pub mod Matches
+pub mod Ahead
+pub mod Reading
+pub mod Setup

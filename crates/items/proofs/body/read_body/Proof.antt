@@ -1,0 +1,86 @@
+use borrow.Author.Needs.{needs}
+use Prim.Native.Nat.{_-_}
+use lib.ListN.{length}
+use Rattle.items.proofs.Reading.{Reading, reading}
+use Rattle.items.proofs.body.read_body.Statement.{statement}
+use Rattle.items.proofs.body.read_body.Tie as tie
+use Rattle.items.proofs.body.read_body.Reads as reads
+use Rattle.items.proofs.body.read_body.Lts as lts
+use Rattle.items.proofs.item.read_item.Reads as read-item-reads
+
+abbrev Inv-loop : tie.InvT-loop
+Inv-loop voice s at₀ count₀ lasts₀ at count lasts = Reading voice s at count lasts
+
+abbrev μ-loop : tie.MeasureT-loop
+μ-loop voice s at₀ count₀ lasts₀ at count lasts = length s - at
+
+returns : tie.Need-returns Inv-loop μ-loop
+returns c = search (needs, reading)
+
+loop-holds : tie.Need-loop-holds Inv-loop μ-loop
+loop-holds c = search (needs, reading)
+
+read-item-requires : tie.Need-read-item-requires Inv-loop μ-loop
+read-item-requires c κs = search (needs, reading)
+
+enum-known-duration : tie.Need-enum-known-duration Inv-loop μ-loop
+enum-known-duration c = search (needs, reading)
+
+add-count : tie.Need-add-count Inv-loop μ-loop
+add-count c = search (needs, reading)
+
+cast-lasts : tie.Need-cast-lasts Inv-loop μ-loop
+cast-lasts c = search (needs, reading)
+
+add-lasts : tie.Need-add-lasts Inv-loop μ-loop
+add-lasts c = search (needs, reading)
+
+loop-less : tie.Need-loop-less Inv-loop μ-loop
+loop-less c = search (needs, reading)
+
+loop-again : tie.Need-loop-again Inv-loop μ-loop
+loop-again c = search (needs, reading)
+
+enum-known-next : tie.Need-enum-known-next Inv-loop μ-loop
+enum-known-next c = search (needs, reading)
+
+add-t19 : tie.Need-add-t19 Inv-loop μ-loop
+add-t19 c = search (needs, reading)
+
+returns-2 : tie.Need-returns-2 Inv-loop μ-loop
+returns-2 c = search (needs, reading)
+
+returns-3 : tie.Need-returns-3 Inv-loop μ-loop
+returns-3 c = search (needs, reading)
+
+enum-known-number : tie.Need-enum-known-number Inv-loop μ-loop
+enum-known-number c = search (needs, reading)
+
+returns-4 : tie.Need-returns-4 Inv-loop μ-loop
+returns-4 c = search (needs, reading)
+
+returns-5 : tie.Need-returns-5 Inv-loop μ-loop
+returns-5 c = search (needs, reading)
+
+pub read-body-spec : {M : Type 1} → statement M
+read-body-spec =
+    tie.close
+    (tie.spec
+    Inv-loop
+    μ-loop
+    returns
+    loop-holds
+    read-item-requires
+    enum-known-duration
+    add-count
+    cast-lasts
+    add-lasts
+    loop-less
+    loop-again
+    enum-known-next
+    add-t19
+    returns-2
+    returns-3
+    enum-known-number
+    returns-4
+    returns-5)
