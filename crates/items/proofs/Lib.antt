@@ -2,3 +2,4 @@ pub mod Matches
 pub mod Ahead
 pub mod Reading
 pub mod Setup
+pub mod Standing

@@ -43,11 +43,11 @@ onto-first count lasts item (refused number place) = refl
 
 -- nothing may follow an end mark
 module _ {E : Type 0} (before : List (Placed (Item E))) (item : Placed (Item E)) where
-  unmarked-passes : afterEndMark before ≡ false → notAfterEndMark before item ≡ passed
+  pub unmarked-passes : afterEndMark before ≡ false → notAfterEndMark before item ≡ passed
   unfolding notAfterEndMark if_then_else_
   unmarked-passes h = rw h
 
-  marked-refuses : afterEndMark before ≡ true → notAfterEndMark before item ≡ refused 11 (item .place)
+  pub marked-refuses : afterEndMark before ≡ true → notAfterEndMark before item ≡ refused 11 (item .place)
   unfolding notAfterEndMark if_then_else_
   marked-refuses h = rw h
 

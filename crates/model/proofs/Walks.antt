@@ -47,3 +47,26 @@ module _ {A : Type 0} (check : List A → A → Checked (Unit {0})) (before : Li
       → inTurn check before (a then rest) ≡ refused number place
   unfolding inTurn _>>_
   in-turn-refuses a rest number place h = rw h refl
+
+-- what a walk met that passed every check
+pub first-fine : {A : Type 0} (a : A) (found : Checked (List A)) (all : List A) → withFirst a found ≡ fine all
+    → (rest : List A) × (found ≡ fine rest) × (all ≡ a ∷ rest)
+unfolding withFirst
+first-fine a (fine rest) all e = (rest, refl, cc)
+first-fine a (refused number place) all e = let z : _≡_ {A = ℕ} 0 1 = cc in absurd (omega arith)
+
+pub in-turn-fine : {A : Type 0} (check : List A → A → Checked (Unit {0})) (before : List A) (a : A) (walk : Walk A) (all : List A)
+    → inTurn check before (a then walk) ≡ fine all
+    → (check before a ≡ passed) × (rest : List A) × (inTurn check (a ∷ before) walk ≡ fine rest) × (all ≡ a ∷ rest)
+in-turn-fine {A} check before a walk all e = go (check before a) refl
+  where
+    go : (c : Checked (Unit {0})) → check before a ≡ c
+        → (check before a ≡ passed) × (rest : List A) × (inTurn check (a ∷ before) walk ≡ fine rest) × (all ≡ a ∷ rest)
+    go (fine u) h =
+        let p : check before a ≡ passed = h in
+        let f = first-fine a (inTurn check (a ∷ before) walk) all (sym (in-turn-passes check before a walk p) ∙ e) in
+        (p, f .0, f .1, f .2)
+    go (refused number place) h =
+        let q = sym (in-turn-refuses check before a walk number place h) ∙ e in
+        let z : _≡_ {A = ℕ} 0 1 = cc in
+        absurd (omega arith)

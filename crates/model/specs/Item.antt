@@ -79,6 +79,14 @@ bodyOf voice s =
     if length s ≡? 0 then refused 11 0 else
     inTurn notAfterEndMark [] (itemsFrom voice s (suc (length s)) 0)
 
+-- the items of a body that reads
+unfoldable pub found : {A : Type 0} → Checked (List A) → List A
+found (fine all) = all
+found (refused number place) = []
+
+unfoldable pub itemsOf : Voice → List ℕ → List (Placed (Item Event))
+itemsOf voice s = found (bodyOf voice s)
+
 -- the answer to one walk of a body
 unfoldable pub bodyAnswer : Checked (List (Placed (Item Event))) → ReadBody
 bodyAnswer (fine items) = body.Whole (length items) (lasting items)

@@ -78,6 +78,12 @@ pub enum ReadBody {
     Refused { number: u32, place: usize },
 }
 
+// Whether a number is an address of a body, and its time.
+pub enum Address {
+    At { time: u64 },
+    Nowhere,
+}
+
 // A check that has nothing to hand back.
 pub enum Check {
     Passed,
