@@ -3,3 +3,4 @@ pub mod Ahead
 pub mod Reading
 pub mod Setup
 pub mod Standing
+pub mod Addresses

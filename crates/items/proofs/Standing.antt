@@ -21,6 +21,16 @@ abbrev pub readAs : Item Event → ℕ → ReadItem
 readAs (timed duration event) next = Timed duration event next
 readAs endMark next = EndMark next
 
+pub read-as-same : (one two : Item Event) (m n : ℕ) → readAs one m ≡ readAs two n → (one ≡ two) × (m ≡ n)
+read-as-same (timed d e) (timed d' e') m n h = (cc, cc)
+read-as-same (timed d e) endMark m n h = let z : _≡_ {A = ℕ} 0 1 = cc in absurd (omega arith)
+read-as-same endMark (timed d e) m n h = let z : _≡_ {A = ℕ} 0 1 = cc in absurd (omega arith)
+read-as-same endMark endMark m n h = (refl, cc)
+
+pub never-refused : (what : Item Event) (next number place : ℕ) → readAs what next ≡ Refused number place → ⊥
+never-refused (timed d e) next number place h = let z : _≡_ {A = ℕ} 0 1 = cc in omega arith
+never-refused endMark next number place h = let z : _≡_ {A = ℕ} 0 1 = cc in omega arith
+
 -- items one after the other from a place on
 abbrev pub Standing : Voice → List ℕ → ℕ → List (Placed (Item Event)) → Type 0
 Standing voice s at [] = at ≡ length s

@@ -79,7 +79,11 @@ bodyOf voice s =
     if length s ≡? 0 then refused 11 0 else
     inTurn notAfterEndMark [] (itemsFrom voice s (suc (length s)) 0)
 
--- the items of a body that reads
+-- a body that reads, and its items
+unfoldable pub isFine : {A : Type 0} → Checked A → Bool
+isFine (fine found) = true
+isFine (refused number place) = false
+
 unfoldable pub found : {A : Type 0} → Checked (List A) → List A
 found (fine all) = all
 found (refused number place) = []

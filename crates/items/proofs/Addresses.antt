@@ -1,0 +1,184 @@
+-- The search for an address: the invariant of `find_address`'s loop, and what each way out of it and each turn makes of it.
+use Prim.Native.Nat.{ℕ, zero, suc, _+_, _-_, _*_, _<_, _≤_}
+use mathlib.Core.List.{List, [], _∷_}
+use mathlib.Core.Bool.{Bool, true, false, false≢true}
+use mathlib.Core.Path.{_≡_, refl, sym, _∙_, ap, ap₂, subst}
+use lib.ListN.{length}
+use native.Mathlib.Nat.{add-zero, zero-add, add-assoc}
+use native.Mathlib.Omega.{arith}
+use borrow.Author.Tests.{eq-eqb, ne-eqb, lt-ltb, le-ltb}
+use Rattle.model.specs.Words.{if_then_else_, _or_, _<?_, _≡?_, any, keep, sum, Placed, Checked, Checked.fine, Checked.refused}
+use Rattle.model.specs.Item.{Item, Item.timed, Item.endMark, durationOf, lasting, itemAt, bodyOf, found, isFine, itemsOf}
+use Rattle.model.specs.Points.{isAddress, timeOf, addressAnswer}
+use Rattle.model.specs.declared.Voice.{Voice}
+use Rattle.model.specs.declared.Event.{Event}
+use Rattle.model.specs.declared.ReadItem.{ReadItem}
+use Rattle.model.specs.declared.ReadItem.the-variants.{Timed, EndMark, Refused}
+use Rattle.model.specs.declared.Address.{Address}
+use Rattle.model.specs.declared.Address.the-variants.{At, Nowhere}
+use Rattle.items.proofs.Standing.{Standing, readAs, read-as-same, never-refused, stands-ahead, body-stands}
+
+abbrev Items : Type 0
+Items = List (Placed (Item Event))
+
+-- the two halves of what is asked of an address, of the items from some place on
+abbrev pub isThere : Items → ℕ → ℕ → Bool
+isThere items size address = any (λ item. item .place ≡? address) items or (size ≡? address)
+
+abbrev pub timeIn : Items → ℕ → ℕ
+timeIn items address = lasting (keep (λ item. item .place <? address) items)
+
+pub record Seeking (voice : Voice) (s : List ℕ) (address at time : ℕ) : Type 0 where
+  pub rest : List (Placed (Item Event))
+  pub stands : Standing voice s at rest
+  pub within : at ≤ length s
+  pub small : time ≤ 4294967296 * at
+  pub there : isThere rest (length s) address ≡ isAddress (itemsOf voice s) (length s) address
+  pub times : time + timeIn rest address ≡ timeOf (itemsOf voice s) address
+
+fine-found : {A : Type 0} (c : Checked (List A)) → isFine c ≡ true → c ≡ fine (found c)
+unfolding isFine found
+fine-found (fine all) h = refl
+fine-found (refused number place) h = absurd (false≢true h)
+
+-- a body that reads reads to its items
+pub reads-to-items : (voice : Voice) (s : List ℕ) → isFine (bodyOf voice s) ≡ true → bodyOf voice s ≡ fine (itemsOf voice s)
+unfolding itemsOf
+reads-to-items voice s h = fine-found (bodyOf voice s) h
+
+pub seek-starts : (voice : Voice) (s : List ℕ) (address : ℕ) → isFine (bodyOf voice s) ≡ true → Seeking voice s address 0 0
+unfolding isAddress timeOf
+seek-starts voice s address h =
+    record {
+      rest = itemsOf voice s;
+      stands = body-stands voice s (itemsOf voice s) (reads-to-items voice s h);
+      within = omega arith;
+      small = omega arith;
+      there = refl;
+      times = zero-add _;
+    }
+
+-- items from a place on have places from there on
+none-before : (voice : Voice) (s : List ℕ) (address at : ℕ) (items : Items) → Standing voice s at items → address ≤ at
+    → timeIn items address ≡ 0
+unfolding keep lasting sum if_then_else_
+none-before voice s address at [] st h = refl
+none-before voice s address at (item ∷ rest) st h =
+    let a = stands-ahead voice s at (st .1) (item .what) (st .2) in
+    let past : address ≤ item .place = omega arith in
+    simp le-ltb (none-before voice s address (st .1) rest (st .3) (omega arith))
+
+none-there : (voice : Voice) (s : List ℕ) (address at : ℕ) (items : Items) → Standing voice s at items → address < at → at ≤ length s
+    → isThere items (length s) address ≡ false
+unfolding any _or_
+none-there voice s address at [] st h within = let other : length s ≡ address → ⊥ = λ e. omega arith in simp ne-eqb
+none-there voice s address at (item ∷ rest) st h within =
+    let a = stands-ahead voice s at (st .1) (item .what) (st .2) in
+    let other : item .place ≡ address → ⊥ = λ e. omega arith in
+    simp ne-eqb (none-there voice s address (st .1) rest (st .3) (omega arith) (a .1))
+
+one-there : (voice : Voice) (s : List ℕ) (at : ℕ) (items : Items) → Standing voice s at items → isThere items (length s) at ≡ true
+unfolding any _or_
+one-there voice s at [] st = let e : length s ≡ at = omega arith in simp eq-eqb
+one-there voice s at (item ∷ rest) st = let e : item .place ≡ at = st .0 in simp eq-eqb
+
+none-past : (voice : Voice) (s : List ℕ) (address at : ℕ) (items : Items) → Standing voice s at items → at < address → length s ≤ at
+    → isThere items (length s) address ≡ false
+unfolding any _or_
+none-past voice s address at [] st before past = let other : length s ≡ address → ⊥ = λ e. omega arith in simp ne-eqb
+none-past voice s address at (item ∷ rest) st before past =
+    let a = stands-ahead voice s at (st .1) (item .what) (st .2) in
+    absurd (omega arith)
+
+-- an item before the address is passed by, and its duration counts
+passed-by : (item : Placed (Item Event)) (rest : Items) (address size : ℕ) → item .place < address
+    → isThere (item ∷ rest) size address ≡ isThere rest size address
+unfolding any _or_
+passed-by item rest address size h = let other : item .place ≡ address → ⊥ = λ e. omega arith in simp ne-eqb
+
+timed-by : (item : Placed (Item Event)) (rest : Items) (address : ℕ) → item .place < address
+    → timeIn (item ∷ rest) address ≡ durationOf (item .what) + timeIn rest address
+unfolding keep lasting sum if_then_else_
+timed-by item rest address h = simp lt-ltb
+
+module _ (voice : Voice) (s : List ℕ) (address at time : ℕ) (r : Seeking voice s address at time) where
+  -- an answer where the two halves are known
+  answered : (there : Bool) (t : ℕ) → isThere (r .rest) (length s) address ≡ there → time + timeIn (r .rest) address ≡ t
+      → (if there then At t else Nowhere) ≡ addressAnswer (itemsOf voice s) (length s) address
+  unfolding addressAnswer
+  answered there t p q = ap₂ (λ (b : Bool) (n : ℕ). if b then At n else Nowhere) (sym p ∙ r .there) (sym q ∙ r .times)
+
+  pub seek-finds : address ≤ at → at ≡ address → At time ≡ addressAnswer (itemsOf voice s) (length s) address
+  unfolding if_then_else_
+  seek-finds h e =
+      answered true time
+      (ap (isThere (r .rest) (length s)) (sym e) ∙ one-there voice s at (r .rest) (r .stands))
+      (ap (λ (n : ℕ). time + n) (none-before voice s address at (r .rest) (r .stands) h) ∙ add-zero time)
+
+  pub seek-passes : address ≤ at → (at ≡ address → ⊥) → Nowhere ≡ addressAnswer (itemsOf voice s) (length s) address
+  unfolding if_then_else_
+  seek-passes h e =
+      let past : address < at = omega arith in
+      answered false _ (none-there voice s address at (r .rest) (r .stands) past (r .within)) refl
+
+  -- the item that stands at the place
+  first-item : at < length s → (item : Placed (Item Event)) × (rest : Items) × (r .rest ≡ item ∷ rest)
+  first-item here = go (r .rest) refl
+    where
+      go : (items : Items) → r .rest ≡ items → (item : Placed (Item Event)) × (rest : Items) × (r .rest ≡ item ∷ rest)
+      go [] e = let over : at ≡ length s = subst (Standing voice s at) e (r .stands) in absurd (omega arith)
+      go (item ∷ rest) e = (item, rest, e)
+
+  pub seek-runs-out : at < address → length s ≤ at → Nowhere ≡ addressAnswer (itemsOf voice s) (length s) address
+  unfolding if_then_else_
+  seek-runs-out before past = answered false _ (none-past voice s address at (r .rest) (r .stands) before past) refl
+
+  -- one item further
+  stepped : (what : Item Event) (next : ℕ) → itemAt voice s at ≡ readAs what next → at < address → durationOf what < 4294967296
+      → Seeking voice s address next (time + durationOf what)
+  stepped what next is before small =
+      let a = stands-ahead voice s at next what is in
+      let f = first-item (omega arith) in
+      let st : Standing voice s at (f .0 ∷ f .1) = subst (Standing voice s at) (f .2) (r .stands) in
+      let same = read-as-same (f .0 .what) what (st .1) next (sym (st .2) ∙ is) in
+      record {
+        rest = f .1;
+        stands = subst (λ (n : ℕ). Standing voice s n (f .1)) (same .1) (st .3);
+        within = a .1;
+        small = omega (arith, r .small);
+        there =
+            sym (passed-by (f .0) (f .1) address (length s) (omega (arith, st .0)))
+            ∙ ap (λ (items : Items). isThere items (length s) address) (sym (f .2))
+            ∙ r .there;
+        times =
+            ap (λ (n : ℕ). time + n + timeIn (f .1) address) (ap durationOf (sym (same .0)))
+            ∙ add-assoc time (durationOf (f .0 .what)) (timeIn (f .1) address)
+            ∙ ap (λ (n : ℕ). time + n) (sym (timed-by (f .0) (f .1) address (omega (arith, st .0))) ∙ ap (λ (items : Items). timeIn items address) (sym (f .2)))
+            ∙ r .times;
+      }
+
+  module _ (i : ReadItem) (before : at < address) (here : at < length s) (is : i ≡ itemAt voice s at) where
+    pub seek-reads : (duration next : ℕ) (event : Event) → i ≡ Timed duration event next → duration < 4294967296
+        → Seeking voice s address next (time + duration)
+    unfolding durationOf
+    seek-reads duration next event e small = stepped (timed duration event) next (sym is ∙ e) before small
+
+    pub seek-marks : (next : ℕ) → i ≡ EndMark next → Seeking voice s address next time
+    unfolding durationOf
+    seek-marks next e =
+        subst (Seeking voice s address next) (add-zero time) (stepped endMark next (sym is ∙ e) before (omega arith))
+
+    pub seek-nears : (duration next : ℕ) (event : Event) → i ≡ Timed duration event next → length s - next < length s - at
+    seek-nears duration next event e = let a = stands-ahead voice s at next (timed duration event) (sym is ∙ e) in omega arith
+
+    pub seek-nears-mark : (next : ℕ) → i ≡ EndMark next → length s - next < length s - at
+    seek-nears-mark next e = let a = stands-ahead voice s at next endMark (sym is ∙ e) in omega arith
+
+    -- nothing that stands in a body that reads is refused
+    pub seek-never : (number place : ℕ) → i ≡ Refused number place → Nowhere ≡ addressAnswer (itemsOf voice s) (length s) address
+    seek-never number place e =
+        let f = first-item here in
+        let st : Standing voice s at (f .0 ∷ f .1) = subst (Standing voice s at) (f .2) (r .stands) in
+        absurd (never-refused (f .0 .what) (st .1) number place (sym (st .2) ∙ sym is ∙ e))
+
+pub ruleset seeking = (seek-starts, seek-finds, seek-passes, seek-runs-out, seek-reads, seek-marks, seek-nears, seek-nears-mark, seek-never)
