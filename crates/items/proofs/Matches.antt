@@ -4,13 +4,13 @@ use mathlib.Core.Path.{_≡_, refl, sym, _∙_, ap}
 use mathlib.Core.Bool.{Bool, true, false, not}
 use mathlib.Core.List.{List}
 use native.Mathlib.Omega.{arith}
-use lib.ListN.{length}
+use lib.ListN.{length, List·getD-eq-default}
 use borrow.Author.Tests.{lt-leb, le-leb, leb-true}
 use Rattle.model.specs.Words.{if_then_else_, _and_, _≤?_, _≡?_}
 use Rattle.model.specs.Duration.{notZero}
-use Rattle.model.specs.Event.{isNote, isWave, isSound, sound, gated, hasKind, longAt, eventAt}
+use Rattle.model.specs.Event.{isNote, isWave, isSound, sound, gated, hasKind, longAt, eventAt, modulations, pitchBends, expressions, standardValue}
 use Rattle.model.specs.Item.{withEvent, withDuration, isEndMark}
-use Rattle.model.proofs.Tests.{and-left}
+use Rattle.model.proofs.Tests.{and-left, if-all}
 use Rattle.model.specs.declared.Voice.{Voice}
 use Rattle.model.specs.declared.Voice.the-variants.{Score, Pcm}
 use Rattle.model.specs.declared.Event.{Event}
@@ -93,6 +93,13 @@ has-kind-pcm voice kind z p h = rw p h
 pub long-at-kind : (voice : Voice) (s : List ℕ) (at channel k l : ℕ) (z : ReadEvent) → k ≡ l → z ≡ longAt voice s at channel k
     → z ≡ longAt voice s at channel l
 long-at-kind voice s at channel k l z p h = rw (← p) h
+
+-- a short form has no more than 14 values
+pub standard-past : (kind short : ℕ) → 15 ≤ short → 0 ≡ standardValue kind short
+unfolding standardValue
+standard-past kind short h =
+    if-all (λ (value : ℕ). 0 ≡ value) _ _ _ (λ i. sym (List·getD-eq-default modulations 0 h))
+    (λ i. if-all (λ (value : ℕ). 0 ≡ value) _ _ _ (λ j. sym (List·getD-eq-default pitchBends 0 h)) (λ j. sym (List·getD-eq-default expressions 0 h)))
 
 -- an end mark is within the body
 pub end-mark-within : (s : List ℕ) (at : ℕ) → isEndMark s at ≡ true → at + 4 ≤ length s

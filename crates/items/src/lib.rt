@@ -4,6 +4,7 @@ mod body;
 mod duration;
 mod event;
 mod item;
+mod standard;
 
 pub use body::read_body;
 pub use body::read_setup;
