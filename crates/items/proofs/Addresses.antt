@@ -7,8 +7,8 @@ use lib.ListN.{length}
 use native.Mathlib.Nat.{add-zero, zero-add, add-assoc}
 use native.Mathlib.Omega.{arith}
 use borrow.Author.Tests.{eq-eqb, ne-eqb, lt-ltb, le-ltb}
-use Rattle.model.specs.Words.{if_then_else_, _or_, _<?_, _≡?_, any, keep, sum, Placed, Checked, Checked.fine, Checked.refused}
-use Rattle.model.specs.Item.{Item, Item.timed, Item.endMark, durationOf, lasting, itemAt, bodyOf, found, isFine, itemsOf}
+use Rattle.model.specs.Words.{if_then_else_, _or_, _<?_, _≡?_, any, keep, sum, Placed, Checked, Checked.fine, Checked.refused, Step, Step.met, Step.stuck}
+use Rattle.model.specs.Item.{Item, Item.timed, Item.endMark, durationOf, lasting, itemAt, itemMet, itemStep, bodyOf, found, isFine, itemsOf}
 use Rattle.model.specs.Points.{isAddress, timeOf, addressAnswer}
 use Rattle.model.specs.declared.Voice.{Voice}
 use Rattle.model.specs.declared.Event.{Event}
@@ -16,10 +16,30 @@ use Rattle.model.specs.declared.ReadItem.{ReadItem}
 use Rattle.model.specs.declared.ReadItem.the-variants.{Timed, EndMark, Refused}
 use Rattle.model.specs.declared.Address.{Address}
 use Rattle.model.specs.declared.Address.the-variants.{At, Nowhere}
-use Rattle.items.proofs.Standing.{Standing, readAs, read-as-same, never-refused, stands-ahead, body-stands}
+use Rattle.model.proofs.Walks.{GoesOn, Stand}
+use Rattle.items.proofs.Standing.{body-stands}
+use Rattle.items.proofs.Ahead.{item-goes}
 
 abbrev Items : Type 0
 Items = List (Placed (Item Event))
+
+abbrev Standing : Voice → List ℕ → ℕ → Items → Type 0
+Standing voice s at items = Stand (length s) (itemStep voice s) at items
+
+-- an item that stands at a place has that place, and ends past it and within the body
+met-at : (at end : ℕ) (j : ReadItem) (item : Placed (Item Event)) (next : ℕ) → itemMet at j ≡ met item next → item .place ≡ at
+unfolding itemMet
+met-at at end (Timed duration event n) item next e = let same : _≡_ {A = Placed (Item Event)} (record { place = at; what = timed duration event }) item = cc in ap (λ (i : Placed (Item Event)). i .place) (sym same)
+met-at at end (EndMark n) item next e = let same : _≡_ {A = Placed (Item Event)} (record { place = at; what = endMark }) item = cc in ap (λ (i : Placed (Item Event)). i .place) (sym same)
+met-at at end (Refused number place) item next e = let z : _≡_ {A = ℕ} 0 1 = cc in absurd (omega arith)
+
+module _ (voice : Voice) (s : List ℕ) (at : ℕ) (item : Placed (Item Event)) (next : ℕ) (e : itemStep voice s at ≡ met item next) where
+  placed-at : item .place ≡ at
+  unfolding itemStep
+  placed-at = met-at at (length s) (itemAt voice s at) item next e
+
+  stands-ahead : (at < next) × (next ≤ length s)
+  stands-ahead = subst (GoesOn (length s) at) e (item-goes voice s at)
 
 -- the two halves of what is asked of an address, of the items from some place on
 abbrev pub isThere : Items → ℕ → ℕ → Bool
@@ -30,7 +50,7 @@ timeIn items address = lasting (keep (λ item. item .place <? address) items)
 
 pub record Seeking (voice : Voice) (s : List ℕ) (address at time : ℕ) : Type 0 where
   pub rest : List (Placed (Item Event))
-  pub stands : Standing voice s at rest
+  pub stands : Stand (length s) (itemStep voice s) at rest
   pub within : at ≤ length s
   pub small : time ≤ 4294967296 * at
   pub there : isThere rest (length s) address ≡ isAddress (itemsOf voice s) (length s) address
@@ -64,30 +84,30 @@ none-before : (voice : Voice) (s : List ℕ) (address at : ℕ) (items : Items) 
 unfolding keep lasting sum if_then_else_
 none-before voice s address at [] st h = refl
 none-before voice s address at (item ∷ rest) st h =
-    let a = stands-ahead voice s at (st .1) (item .what) (st .2) in
-    let past : address ≤ item .place = omega arith in
-    simp le-ltb (none-before voice s address (st .1) rest (st .3) (omega arith))
+    let a = stands-ahead voice s at item (st .0) (st .1) in
+    let past : address ≤ item .place = omega (arith, placed-at voice s at item (st .0) (st .1)) in
+    simp le-ltb (none-before voice s address (st .0) rest (st .2) (omega arith))
 
 none-there : (voice : Voice) (s : List ℕ) (address at : ℕ) (items : Items) → Standing voice s at items → address < at → at ≤ length s
     → isThere items (length s) address ≡ false
 unfolding any _or_
 none-there voice s address at [] st h within = let other : length s ≡ address → ⊥ = λ e. omega arith in simp ne-eqb
 none-there voice s address at (item ∷ rest) st h within =
-    let a = stands-ahead voice s at (st .1) (item .what) (st .2) in
-    let other : item .place ≡ address → ⊥ = λ e. omega arith in
-    simp ne-eqb (none-there voice s address (st .1) rest (st .3) (omega arith) (a .1))
+    let a = stands-ahead voice s at item (st .0) (st .1) in
+    let other : item .place ≡ address → ⊥ = λ e. omega (arith, placed-at voice s at item (st .0) (st .1)) in
+    simp ne-eqb (none-there voice s address (st .0) rest (st .2) (omega arith) (a .1))
 
 one-there : (voice : Voice) (s : List ℕ) (at : ℕ) (items : Items) → Standing voice s at items → isThere items (length s) at ≡ true
 unfolding any _or_
 one-there voice s at [] st = let e : length s ≡ at = omega arith in simp eq-eqb
-one-there voice s at (item ∷ rest) st = let e : item .place ≡ at = st .0 in simp eq-eqb
+one-there voice s at (item ∷ rest) st = let e : item .place ≡ at = placed-at voice s at item (st .0) (st .1) in simp eq-eqb
 
 none-past : (voice : Voice) (s : List ℕ) (address at : ℕ) (items : Items) → Standing voice s at items → at < address → length s ≤ at
     → isThere items (length s) address ≡ false
 unfolding any _or_
 none-past voice s address at [] st before past = let other : length s ≡ address → ⊥ = λ e. omega arith in simp ne-eqb
 none-past voice s address at (item ∷ rest) st before past =
-    let a = stands-ahead voice s at (st .1) (item .what) (st .2) in
+    let a = stands-ahead voice s at item (st .0) (st .1) in
     absurd (omega arith)
 
 -- an item before the address is passed by, and its duration counts
@@ -134,51 +154,63 @@ module _ (voice : Voice) (s : List ℕ) (address at time : ℕ) (r : Seeking voi
   seek-runs-out before past = answered false _ (none-past voice s address at (r .rest) (r .stands) before past) refl
 
   -- one item further
-  stepped : (what : Item Event) (next : ℕ) → itemAt voice s at ≡ readAs what next → at < address → durationOf what < 4294967296
+  stepped : (what : Item Event) (next : ℕ) → itemStep voice s at ≡ met (record { place = at; what = what }) next → at < address → durationOf what < 4294967296
       → Seeking voice s address next (time + durationOf what)
   stepped what next is before small =
-      let a = stands-ahead voice s at next what is in
+      let item : Placed (Item Event) = record { place = at; what = what } in
+      let a = stands-ahead voice s at item next is in
       let f = first-item (omega arith) in
       let st : Standing voice s at (f .0 ∷ f .1) = subst (Standing voice s at) (f .2) (r .stands) in
-      let same = read-as-same (f .0 .what) what (st .1) next (sym (st .2) ∙ is) in
+      let both : met (f .0) (st .0) ≡ met item next = sym (st .1) ∙ is in
+      let same : f .0 ≡ item = cc in
+      let on : st .0 ≡ next = cc in
+      let rests : r .rest ≡ item ∷ f .1 = f .2 ∙ ap (λ (i : Placed (Item Event)). i ∷ f .1) same in
       record {
         rest = f .1;
-        stands = subst (λ (n : ℕ). Standing voice s n (f .1)) (same .1) (st .3);
+        stands = subst (λ (n : ℕ). Standing voice s n (f .1)) on (st .2);
         within = a .1;
         small = omega (arith, r .small);
         there =
-            sym (passed-by (f .0) (f .1) address (length s) (omega (arith, st .0)))
-            ∙ ap (λ (items : Items). isThere items (length s) address) (sym (f .2))
+            sym (passed-by item (f .1) address (length s) before)
+            ∙ ap (λ (items : Items). isThere items (length s) address) (sym rests)
             ∙ r .there;
         times =
-            ap (λ (n : ℕ). time + n + timeIn (f .1) address) (ap durationOf (sym (same .0)))
-            ∙ add-assoc time (durationOf (f .0 .what)) (timeIn (f .1) address)
-            ∙ ap (λ (n : ℕ). time + n) (sym (timed-by (f .0) (f .1) address (omega (arith, st .0))) ∙ ap (λ (items : Items). timeIn items address) (sym (f .2)))
+            add-assoc time (durationOf what) (timeIn (f .1) address)
+            ∙ ap (λ (n : ℕ). time + n) (sym (timed-by item (f .1) address before) ∙ ap (λ (items : Items). timeIn items address) (sym rests))
             ∙ r .times;
       }
 
   module _ (i : ReadItem) (before : at < address) (here : at < length s) (is : i ≡ itemAt voice s at) where
+    stands : (j : ReadItem) → i ≡ j → itemStep voice s at ≡ itemMet at j
+    unfolding itemStep
+    stands j e = ap (itemMet at) (sym is ∙ e)
+
     pub seek-reads : (duration next : ℕ) (event : Event) → i ≡ Timed duration event next → duration < 4294967296
         → Seeking voice s address next (time + duration)
-    unfolding durationOf
-    seek-reads duration next event e small = stepped (timed duration event) next (sym is ∙ e) before small
+    unfolding durationOf itemMet
+    seek-reads duration next event e small = stepped (timed duration event) next (stands (Timed duration event next) e) before small
 
     pub seek-marks : (next : ℕ) → i ≡ EndMark next → Seeking voice s address next time
-    unfolding durationOf
+    unfolding durationOf itemMet
     seek-marks next e =
-        subst (Seeking voice s address next) (add-zero time) (stepped endMark next (sym is ∙ e) before (omega arith))
+        subst (Seeking voice s address next) (add-zero time) (stepped endMark next (stands (EndMark next) e) before (omega arith))
 
     pub seek-nears : (duration next : ℕ) (event : Event) → i ≡ Timed duration event next → length s - next < length s - at
-    seek-nears duration next event e = let a = stands-ahead voice s at next (timed duration event) (sym is ∙ e) in omega arith
+    unfolding itemMet
+    seek-nears duration next event e = let a = stands-ahead voice s at _ next (stands (Timed duration event next) e) in omega arith
 
     pub seek-nears-mark : (next : ℕ) → i ≡ EndMark next → length s - next < length s - at
-    seek-nears-mark next e = let a = stands-ahead voice s at next endMark (sym is ∙ e) in omega arith
+    unfolding itemMet
+    seek-nears-mark next e = let a = stands-ahead voice s at _ next (stands (EndMark next) e) in omega arith
 
     -- nothing that stands in a body that reads is refused
     pub seek-never : (number place : ℕ) → i ≡ Refused number place → Nowhere ≡ addressAnswer (itemsOf voice s) (length s) address
+    unfolding itemMet
     seek-never number place e =
         let f = first-item here in
         let st : Standing voice s at (f .0 ∷ f .1) = subst (Standing voice s at) (f .2) (r .stands) in
-        absurd (never-refused (f .0 .what) (st .1) number place (sym (st .2) ∙ sym is ∙ e))
+        let both : met (f .0) (st .0) ≡ stuck number place = sym (st .1) ∙ stands (Refused number place) e in
+        let z : _≡_ {A = ℕ} 0 1 = cc in
+        absurd (omega arith)
 
 pub ruleset seeking = (seek-starts, seek-finds, seek-passes, seek-runs-out, seek-reads, seek-marks, seek-nears, seek-nears-mark, seek-never)

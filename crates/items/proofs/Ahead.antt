@@ -8,7 +8,7 @@ use native.Mathlib.Omega.{arith}
 use borrow.Author.Tests.{ltb-true, ltb-false, leb-true, leb-false}
 use Rattle.model.specs.Duration.{durationAt, notZero, gateAt}
 use Rattle.model.specs.Event.{gated, soundAt, longAt, shortAt, formed, controlAt, closedAt, exclusiveAt, systemAt, eventAt}
-use Rattle.model.specs.Item.{withEvent, withDuration, itemAt, setupMessageAt}
+use Rattle.model.specs.Item.{withEvent, withDuration, itemAt, itemMet, itemStep, setupMessageAt, messageMet, setupStep}
 use Rattle.model.specs.declared.Voice.{Voice}
 use Rattle.model.specs.declared.ReadDuration.{ReadDuration}
 use Rattle.model.specs.declared.ReadDuration.the-variants as duration
@@ -17,6 +17,7 @@ use Rattle.model.specs.declared.ReadEvent.the-variants as event
 use Rattle.model.specs.declared.ReadItem.{ReadItem}
 use Rattle.model.specs.declared.ReadItem.the-variants.{Timed, EndMark, Refused}
 use Rattle.model.proofs.Tests.{if-all}
+use Rattle.model.proofs.Walks.{GoesOn}
 use Rattle.items.proofs.Matches.{end-mark-within}
 
 abbrev pub DurationAhead : ℕ → ℕ → ReadDuration → Type 0
@@ -127,3 +128,24 @@ unfolding setupMessageAt
 setup-message-ahead s at =
     if-all (EventAhead at (length s)) _ _ _ (λ h. tt)
     (λ h. if-all (EventAhead at (length s)) _ _ _ (λ i. exclusive-ahead s at) (λ i. tt))
+
+-- so the walks over items and over setup messages go on
+
+item-met-goes : (at end : ℕ) (item : ReadItem) → ItemAhead at end item → GoesOn end at (itemMet at item)
+unfolding itemMet
+item-met-goes at end (Timed duration event next) a = a
+item-met-goes at end (EndMark next) a = a
+item-met-goes at end (Refused number place) a = tt
+
+pub item-goes : (voice : Voice) (s : List ℕ) (at : ℕ) → GoesOn (length s) at (itemStep voice s at)
+unfolding itemStep
+item-goes voice s at = item-met-goes at (length s) (itemAt voice s at) (item-ahead voice s at)
+
+message-met-goes : (at end : ℕ) (message : ReadEvent) → EventAhead at end message → GoesOn end at (messageMet at message)
+unfolding messageMet
+message-met-goes at end (event.Is what next) a = a
+message-met-goes at end event.Refused a = tt
+
+pub message-goes : (s : List ℕ) (at : ℕ) → GoesOn (length s) at (setupStep s at)
+unfolding setupStep
+message-goes s at = message-met-goes at (length s) (setupMessageAt s at) (setup-message-ahead s at)

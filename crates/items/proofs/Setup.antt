@@ -1,19 +1,19 @@
 -- One walk of a setup body: the invariant of `read_setup`'s loop, and what each way out of it and each turn makes of it.
-use Prim.Native.Nat.{ℕ, zero, suc, _+_, _-_, _<_, _≤_}
+use Prim.Native.Nat.{ℕ, _+_, _-_, _<_, _≤_}
 use mathlib.Core.List.{List, [], _∷_}
 use mathlib.Core.Bool.{Bool, true, false}
 use mathlib.Core.Path.{_≡_, refl, sym, _∙_, ap, subst}
 use lib.ListN.{length}
 use native.Mathlib.Omega.{arith}
 use borrow.Author.Tests.{eq-eqb, ne-eqb, le-leb, lt-leb}
-use Rattle.model.specs.Words.{if_then_else_, _≤?_, Checked, Checked.fine, Checked.refused, passed, Walk, inTurn}
-use Rattle.model.specs.Item.{setupMessageAt, metMessage, setupFrom, setupOf, checkAnswer}
+use Rattle.model.specs.Words.{if_then_else_, _≤?_, Checked, Checked.fine, Checked.refused, passed, walkTo, inTurn}
+use Rattle.model.specs.Item.{setupMessageAt, messageMet, setupStep, setupOf, checkAnswer}
 use Rattle.model.specs.declared.Event.{Event}
 use Rattle.model.specs.declared.ReadEvent.{ReadEvent}
 use Rattle.model.specs.declared.ReadEvent.the-variants as event
 use Rattle.model.specs.declared.Check.{Check}
 use Rattle.model.specs.declared.Check.the-variants as check
-use Rattle.model.proofs.Walks.{walk-ends, walk-steps, withFirst, in-turn-over, in-turn-broken, in-turn-passes}
+use Rattle.model.proofs.Walks.{withFirst, Left, left-starts, left-ends, left-stuck, left-next}
 use Rattle.items.proofs.Ahead.{EventAhead, setup-message-ahead}
 
 abbrev free : List Event → Event → Checked (Unit {0})
@@ -25,11 +25,10 @@ answer-first message (fine all) = refl
 answer-first message (refused number place) = refl
 
 pub record SettingUp (s : List ℕ) (at : ℕ) : Type 0 where
-  pub turns : ℕ
-  pub enough : length s < at + turns
-  pub within : at ≤ length s
   pub before : List Event
-  pub same : checkAnswer (inTurn (λ before message. passed) before (setupFrom s turns at)) ≡ checkAnswer (setupOf s)
+  pub left : Checked (List Event)
+  pub walk : Left 10 (length s) (setupStep s) (λ before message. passed) at before left
+  pub same : checkAnswer left ≡ checkAnswer (setupOf s)
 
 pub setup-empty : (s : List ℕ) → length s ≡ 0 → check.Refused 10 0 ≡ checkAnswer (setupOf s)
 unfolding setupOf if_then_else_ checkAnswer
@@ -38,31 +37,26 @@ setup-empty s h = simp eq-eqb
 pub setup-starts : (s : List ℕ) → (length s ≡ 0 → ⊥) → SettingUp s 0
 unfolding setupOf if_then_else_
 setup-starts s h =
-    record { turns = suc (length s); enough = omega arith; within = omega arith; before = []; same = simp ne-eqb }
+    record {
+      before = [];
+      left = inTurn free [] (walkTo 10 (length s) (setupStep s) 0);
+      walk = left-starts 10 (length s) (setupStep s) free 0 (omega arith);
+      same = simp ne-eqb;
+    }
 
 module _ (s : List ℕ) (at : ℕ) (r : SettingUp s at) where
   pub setup-ends : length s ≤ at → check.Passed ≡ checkAnswer (setupOf s)
-  unfolding setupFrom checkAnswer
-  setup-ends h =
-      ap checkAnswer (sym (in-turn-over free (r .before)) ∙ ap (inTurn free (r .before)) (sym (walk-ends 10 (length s) _ (r .turns) at (r .enough) (r .within) h)))
-      ∙ r .same
-
-  stepped : (j : ReadEvent) → at < length s → setupMessageAt s at ≡ j
-      → (left : ℕ) × (length s ≤ at + left) × (checkAnswer (inTurn free (r .before) (metMessage at j (λ next. setupFrom s left next))) ≡ checkAnswer (setupOf s))
-  unfolding setupFrom
-  stepped j here e =
-      let w = walk-steps 10 (length s) (λ at go. metMessage at (setupMessageAt s at) go) (r .turns) at (r .enough) here in (
-        w .0,
-        w .1,
-        ap (λ (k : ReadEvent). checkAnswer (inTurn free (r .before) (metMessage at k (λ next. setupFrom s (w .0) next)))) (sym e)
-            ∙ ap (λ (k : Walk Event). checkAnswer (inTurn free (r .before) k)) (sym (w .2))
-            ∙ r .same,
-      )
+  unfolding checkAnswer
+  setup-ends h = ap checkAnswer (sym (left-ends _ _ _ _ at (r .before) (r .left) (r .walk) h)) ∙ r .same
 
   module _ (i : ReadEvent) (here : at < length s) (is : i ≡ setupMessageAt s at) where
+    stands : (j : ReadEvent) → i ≡ j → setupStep s at ≡ messageMet at j
+    unfolding setupStep
+    stands j e = ap (messageMet at) (sym is ∙ e)
+
     pub setup-refused : i ≡ event.Refused → check.Refused 10 at ≡ checkAnswer (setupOf s)
-    unfolding metMessage checkAnswer
-    setup-refused e = ap checkAnswer (sym (in-turn-broken free (r .before) 10 at)) ∙ stepped event.Refused here (sym is ∙ e) .2
+    unfolding messageMet checkAnswer
+    setup-refused e = ap checkAnswer (sym (left-stuck _ _ _ _ at (r .before) (r .left) (r .walk) 10 at here (stands event.Refused e))) ∙ r .same
 
     ahead : (next : ℕ) (message : Event) → i ≡ event.Is message next → (at < next) × (next ≤ length s)
     ahead next message e = subst (EventAhead at (length s)) (sym is ∙ e) (setup-message-ahead s at)
@@ -71,16 +65,14 @@ module _ (s : List ℕ) (at : ℕ) (r : SettingUp s at) where
     setup-nears next message e = let a = ahead next message e in omega arith
 
     pub setup-reads : (next : ℕ) (message : Event) → i ≡ event.Is message next → SettingUp s next
-    unfolding metMessage
+    unfolding messageMet
     setup-reads next message e =
-        let a = ahead next message e in
-        let w = stepped (event.Is message next) here (sym is ∙ e) in
+        let n = left-next _ _ _ _ at (r .before) (r .left) (r .walk) message next here (stands (event.Is message next) e) (ahead next message e) refl in
         record {
-          turns = w .0;
-          enough = omega arith;
-          within = a .1;
           before = message ∷ r .before;
-          same = sym (answer-first message _) ∙ ap checkAnswer (sym (in-turn-passes free (r .before) message _ refl)) ∙ w .2;
+          left = n .0;
+          walk = n .1;
+          same = sym (answer-first message (n .0)) ∙ ap checkAnswer (sym (n .2)) ∙ r .same;
         }
 
 -- the room for a message's first two bytes, as the code tests it

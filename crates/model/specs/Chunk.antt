@@ -1,9 +1,9 @@
 -- Paper, "Chunks": chunks and chunk lists. One reader serves every list; it is told which IDs are allowed there.
-use Prim.Native.Nat.{ℕ, suc, _+_, _-_}
+use Prim.Native.Nat.{ℕ, _+_, _-_}
 use mathlib.Core.List.{List, [], _∷_}
 use mathlib.Core.Bool.{Bool, true, false, not}
 use lib.ListN.{length}
-use Rattle.model.specs.Words.{if_then_else_, _<?_, _≡?_, any, Checked, Checked.refused, passed, Walk, Walk.broken, Walk._then_, walkFrom, inTurn}
+use Rattle.model.specs.Words.{if_then_else_, _<?_, _≡?_, any, Checked, Checked.refused, passed, Step, Step.met, Step.stuck, walkTo, inTurn}
 use Rattle.model.specs.Bytes.{number, part}
 
 -- A chunk: its ID, the place of its header and the size of its body. The header is 4 bytes of ID and 4 of size.
@@ -27,14 +27,11 @@ bodyBytes s chunk = part s (bodyPlace chunk) (chunk .size)
 
 -- The chunks of a list that ends at a place. Under 8 bytes left for a header, or a size past the list's end, is refused with 4 at that
 -- header.
-unfoldable pub metChunk : List ℕ → ℕ → ℕ → (ℕ → Walk Chunk) → Walk Chunk
-metChunk s end at go =
-    if end - at <? 8 then broken 4 at else
-    if end - at - 8 <? number 4 s (at + 4) then broken 4 at else
-    chunkAt s at then go (placeAfter (chunkAt s at))
-
-unfoldable pub chunksFrom : List ℕ → ℕ → ℕ → ℕ → Walk Chunk
-chunksFrom s end turns at = walkFrom 4 end (λ here go. metChunk s end here go) turns at
+unfoldable pub chunkStep : List ℕ → ℕ → ℕ → Step Chunk
+chunkStep s end at =
+    if end - at <? 8 then stuck 4 at else
+    if end - at - 8 <? number 4 s (at + 4) then stuck 4 at else
+    met (chunkAt s at) (placeAfter (chunkAt s at))
 
 -- Chunk by chunk, after 4: an ID that is not allowed is refused with 9, one that stood before in the list with 6.
 unfoldable pub allowedOnce : (ℕ → Bool) → List Chunk → Chunk → Checked (Unit {0})
@@ -44,4 +41,4 @@ allowedOnce allowed before chunk =
     passed
 
 unfoldable pub chunkList : (ℕ → Bool) → List ℕ → ℕ → ℕ → Checked (List Chunk)
-chunkList allowed s start end = inTurn (allowedOnce allowed) [] (chunksFrom s end (suc end) start)
+chunkList allowed s start end = inTurn (allowedOnce allowed) [] (walkTo 4 end (chunkStep s end) start)

@@ -1,9 +1,9 @@
 -- Paper, "Items": items read at a place, sequence bodies and setup bodies.
-use Prim.Native.Nat.{ℕ, suc, _+_}
+use Prim.Native.Nat.{ℕ, _+_}
 use mathlib.Core.List.{List, [], _∷_, map}
 use mathlib.Core.Bool.{Bool, true, false}
 use lib.ListN.{length}
-use Rattle.model.specs.Words.{if_then_else_, _and_, _<?_, _≤?_, _≡?_, sum, Placed, Checked, Checked.fine, Checked.refused, passed, Walk, Walk.broken, Walk._then_, walkFrom, inTurn}
+use Rattle.model.specs.Words.{if_then_else_, _and_, _<?_, _≤?_, _≡?_, sum, Placed, Checked, Checked.fine, Checked.refused, passed, Step, Step.met, Step.stuck, walkTo, inTurn}
 use Rattle.model.specs.Bytes.{_!_}
 use Rattle.model.specs.Duration.{durationAt}
 use Rattle.model.specs.Event.{eventAt, exclusiveAt}
@@ -53,13 +53,13 @@ unfoldable pub lasting : {E : Type 0} → List (Placed (Item E)) → ℕ
 lasting items = sum (map (λ item. durationOf (item .what)) items)
 
 -- The items of a body, one after the other.
-unfoldable pub metItem : ℕ → ReadItem → (ℕ → Walk (Placed (Item Event))) → Walk (Placed (Item Event))
-metItem at (Timed duration event next) go = record { place = at; what = timed duration event } then go next
-metItem at (EndMark next) go = record { place = at; what = endMark } then go next
-metItem at (Refused number place) go = broken number place
+unfoldable pub itemMet : ℕ → ReadItem → Step (Placed (Item Event))
+itemMet at (Timed duration event next) = met (record { place = at; what = timed duration event }) next
+itemMet at (EndMark next) = met (record { place = at; what = endMark }) next
+itemMet at (Refused number place) = stuck number place
 
-unfoldable pub itemsFrom : Voice → List ℕ → ℕ → ℕ → Walk (Placed (Item Event))
-itemsFrom voice s turns at = walkFrom 11 (length s) (λ here go. metItem here (itemAt voice s here) go) turns at
+unfoldable pub itemStep : Voice → List ℕ → ℕ → Step (Placed (Item Event))
+itemStep voice s at = itemMet at (itemAt voice s at)
 
 -- The end mark must be the last: whatever follows it is refused with 11 at its first byte.
 unfoldable pub isMark : {E : Type 0} → Item E → Bool
@@ -77,7 +77,7 @@ notAfterEndMark before item = if afterEndMark before then refused 11 (item .plac
 unfoldable pub bodyOf : Voice → List ℕ → Checked (List (Placed (Item Event)))
 bodyOf voice s =
     if length s ≡? 0 then refused 11 0 else
-    inTurn notAfterEndMark [] (itemsFrom voice s (suc (length s)) 0)
+    inTurn notAfterEndMark [] (walkTo 11 (length s) (itemStep voice s) 0)
 
 -- a body that reads, and its items
 unfoldable pub isFine : {A : Type 0} → Checked A → Bool
@@ -103,17 +103,17 @@ setupMessageAt s at =
     if (s ! at ≡? 0xFF) and (s ! (at + 1) ≡? 0xF0) then exclusiveAt s at else
     event.Refused
 
-unfoldable pub metMessage : ℕ → ReadEvent → (ℕ → Walk Event) → Walk Event
-metMessage at (event.Is what next) go = what then go next
-metMessage at event.Refused go = broken 10 at
+unfoldable pub messageMet : ℕ → ReadEvent → Step Event
+messageMet at (event.Is what next) = met what next
+messageMet at event.Refused = stuck 10 at
 
-unfoldable pub setupFrom : List ℕ → ℕ → ℕ → Walk Event
-setupFrom s turns at = walkFrom 10 (length s) (λ here go. metMessage here (setupMessageAt s here) go) turns at
+unfoldable pub setupStep : List ℕ → ℕ → Step Event
+setupStep s at = messageMet at (setupMessageAt s at)
 
 unfoldable pub setupOf : List ℕ → Checked (List Event)
 setupOf s =
     if length s ≡? 0 then refused 10 0 else
-    inTurn (λ before message. passed) [] (setupFrom s (suc (length s)) 0)
+    inTurn (λ before message. passed) [] (walkTo 10 (length s) (setupStep s) 0)
 
 -- the answer where only a refusal counts
 unfoldable pub checkAnswer : {A : Type 0} → Checked A → Check

@@ -4,7 +4,7 @@ use mathlib.Core.List.{List, [], _∷_}
 use mathlib.Core.Bool.{Bool, true, false, not}
 use mathlib.Core.Option.{Option, none, some}
 use lib.ListN.{length, drop}
-use Rattle.model.specs.Words.{if_then_else_, _and_, _or_, _<?_, _≤?_, _≡?_, any, firstSaid, Placed, Checked, Checked.refused, passed, Walk, Walk.over, Walk.broken, Walk._then_, walkFrom, inTurn}
+use Rattle.model.specs.Words.{if_then_else_, _and_, _or_, _<?_, _≤?_, _≡?_, any, firstSaid, Placed, Checked, Checked.refused, passed, Step, Step.met, Step.stuck, walkTo, inTurn}
 use Rattle.model.specs.Bytes.{_!_, number, part}
 use Rattle.model.specs.declared.ReadEntry.{ReadEntry}
 use Rattle.model.specs.declared.ReadEntry.the-variants.{Start, Stop, Phrase, Order, Refused}
@@ -57,21 +57,21 @@ entryAt width s at =
     dataAt width s (number 2 s at) (at + 3)
 
 -- A comma stands between entries, and one more after the last is allowed. Another byte after the data is that entry's fault.
-unfoldable pub followed : List ℕ → ℕ → ℕ → Entry → (ℕ → Walk (Placed Entry)) → Walk (Placed Entry)
-followed s at next entry go =
-    if length s ≤? next then record { place = at; what = entry } then over else
-    if s ! next ≡? 0x2C then record { place = at; what = entry } then go (next + 1) else
-    broken 12 at
+unfoldable pub followed : List ℕ → ℕ → ℕ → Entry → Step (Placed Entry)
+followed s at next entry =
+    if length s ≤? next then met (record { place = at; what = entry }) next else
+    if s ! next ≡? 0x2C then met (record { place = at; what = entry }) (next + 1) else
+    stuck 12 at
 
-unfoldable pub metEntry : List ℕ → ℕ → ReadEntry → (ℕ → Walk (Placed Entry)) → Walk (Placed Entry)
-metEntry s at (Start value next) go = followed s at next (start value) go
-metEntry s at (Stop value next) go = followed s at next (stop value) go
-metEntry s at (Phrase letter from to next) go = followed s at next (phrase letter from to) go
-metEntry s at (Order letters next) go = followed s at next (order (part s (at + 3) letters)) go
-metEntry s at Refused go = broken 12 at
+unfoldable pub entryMet : List ℕ → ℕ → ReadEntry → Step (Placed Entry)
+entryMet s at (Start value next) = followed s at next (start value)
+entryMet s at (Stop value next) = followed s at next (stop value)
+entryMet s at (Phrase letter from to next) = followed s at next (phrase letter from to)
+entryMet s at (Order letters next) = followed s at next (order (part s (at + 3) letters))
+entryMet s at Refused = stuck 12 at
 
-unfoldable pub entriesFrom : ℕ → List ℕ → ℕ → ℕ → Walk (Placed Entry)
-entriesFrom width s turns at = walkFrom 12 (length s) (λ here go. metEntry s here (entryAt width s here) go) turns at
+unfoldable pub entryStep : ℕ → List ℕ → ℕ → Step (Placed Entry)
+entryStep width s at = entryMet s at (entryAt width s at)
 
 -- Order: st, sp, phrases, SL; no tag twice.
 unfoldable pub rank : Entry → ℕ
@@ -90,7 +90,7 @@ inOrder before entry =
 unfoldable pub seekOf : ℕ → List ℕ → Checked (List (Placed Entry))
 seekOf width s =
     if length s ≡? 0 then refused 12 0 else
-    inTurn inOrder [] (entriesFrom width s (suc (length s)) 0)
+    inTurn inOrder [] (walkTo 12 (length s) (entryStep width s) 0)
 
 -- What the entries say: the start and stop points, a letter's phrase, the order list.
 
