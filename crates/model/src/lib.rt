@@ -1,4 +1,6 @@
 // The types that answers are made of. What they mean is said in specs/, in the words of the paper.
+ghost use mathlib.Core.Path.{_≡_};
+ghost use Rattle.model.specs.TimeBase.{milliseconds, timeBaseOf};
 
 // The two voices a readable track can have.
 pub enum Voice {
@@ -27,6 +29,49 @@ impl TimeBase {
     pub const MS_40: u8 = 0x12;
 
     pub const MS_50: u8 = 0x13;
+
+    // The time base of a code, where it is one of the eight.
+    pub fn of(code: u8) -> FoundTimeBase
+        ensures { λ r. ⌜ r ≡ timeBaseOf code ⌝ }
+    {
+        let base = TimeBase { code };
+        if 0 < base.milliseconds() {
+            return FoundTimeBase::Known(base);
+        }
+        FoundTimeBase::Unknown
+    }
+
+    // How many milliseconds a step lasts; 0 for a code that is no time base.
+    pub fn milliseconds(self) -> u32
+        ensures { λ r. ⌜ r ≡ milliseconds (self .code) ⌝ }
+    {
+        let code = self.code;
+        if code == TimeBase::MS_1 {
+            return 1;
+        }
+        if code == TimeBase::MS_2 {
+            return 2;
+        }
+        if code == TimeBase::MS_4 {
+            return 4;
+        }
+        if code == TimeBase::MS_5 {
+            return 5;
+        }
+        if code == TimeBase::MS_10 {
+            return 10;
+        }
+        if code == TimeBase::MS_20 {
+            return 20;
+        }
+        if code == TimeBase::MS_40 {
+            return 40;
+        }
+        if code == TimeBase::MS_50 {
+            return 50;
+        }
+        0
+    }
 }
 
 pub enum FoundTimeBase {
