@@ -4,8 +4,11 @@ use mathlib.Core.List.{List, [], _∷_}
 use mathlib.Core.Bool.{Bool, true, false, not}
 use mathlib.Core.Option.{Option, none, some}
 use lib.ListN.{length, drop}
-use Rattle.model.specs.Words.{if_then_else_, _and_, _or_, _<?_, _≤?_, _≡?_, any, firstSaid, Placed, Checked, Checked.refused, passed, Step, Step.met, Step.stuck, walkTo, inTurn}
+use Rattle.model.specs.Words.{if_then_else_, _and_, _or_, _<?_, _≤?_, _≡?_, any, isSome, _otherwise_, firstSaid, Placed, Checked, Checked.refused, passed, Step, Step.met, Step.stuck, walkTo, inTurn}
 use Rattle.model.specs.Bytes.{_!_, number, part}
+use Rattle.model.specs.declared.Points.{Points}
+use Rattle.model.specs.declared.FoundPhrase.{FoundPhrase}
+use Rattle.model.specs.declared.FoundPhrase.the-variants.{Between, Nowhere}
 use Rattle.model.specs.declared.ReadEntry.{ReadEntry}
 use Rattle.model.specs.declared.ReadEntry.the-variants.{Start, Stop, Phrase, Order, Refused}
 
@@ -134,3 +137,31 @@ phraseOf letter entries = firstSaid (λ entry. phraseIn letter (entry .what)) en
 
 unfoldable pub orderList : List (Placed Entry) → Option (List ℕ)
 orderList entries = firstSaid (λ entry. orderIn (entry .what)) entries
+
+-- where the order list's letters stand: behind their entry's tag and colon
+unfoldable pub lettersFrom : ℕ → Entry → Option ℕ
+lettersFrom at (start value) = none
+lettersFrom at (stop value) = none
+lettersFrom at (phrase letter from to) = none
+lettersFrom at (order letters) = some (at + 3)
+
+unfoldable pub orderPlace : List (Placed Entry) → Option ℕ
+orderPlace entries = firstSaid (λ entry. lettersFrom (entry .place) (entry .what)) entries
+
+-- what the entries say, as the answers to a search
+
+unfoldable pub pointsSaid : List (Placed Entry) → Points
+pointsSaid entries =
+    record {
+      starts = isSome (startPoint entries);
+      start = startPoint entries otherwise 0;
+      stops = isSome (stopPoint entries);
+      stop = stopPoint entries otherwise 0;
+      ordered = isSome (orderList entries);
+      order = orderPlace entries otherwise 0;
+      letters = length (orderList entries otherwise []);
+    }
+
+unfoldable pub foundPhrase : Option Addresses → FoundPhrase
+foundPhrase none = Nowhere
+foundPhrase (some addresses) = Between (addresses .from) (addresses .to)

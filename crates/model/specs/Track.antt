@@ -14,6 +14,8 @@ use Rattle.model.specs.Points.{isAddress, isPosition, pointsHold, orderH
 use Rattle.model.specs.declared.Voice.{Voice}
 use Rattle.model.specs.declared.Voice.the-variants.{Score, Pcm}
 use Rattle.model.specs.declared.Event.{Event}
+use Rattle.model.specs.declared.ListOf.{ListOf}
+use Rattle.model.specs.declared.ListOf.the-variants as list
 
 -- A readable track: its header's place, its voice, whether it has phrases, the codes of its time bases D and G, its sub-chunks,
 -- its sequence body with the items, and its seek entries (none without a seek chunk).
@@ -85,6 +87,11 @@ isWaveId id = (id / 256 ≡? Awa) and (0x01 ≤? id % 256) and (id % 256 ≤? 0x
 unfoldable pub isPart : Voice → ℕ → Bool
 isPart Score id = (id ≡? MspI) or (id ≡? Mtsu) or (id ≡? Mtsq)
 isPart Pcm id = (id ≡? AspI) or (id ≡? Atsu) or (id ≡? Atsq) or isWaveId id
+
+-- the IDs that a list allows
+unfoldable pub isAllowed : ListOf → ℕ → Bool
+isAllowed list.File id = true
+isAllowed (list.Track voice) id = isPart voice id
 
 -- the sub-chunk with an ID, of which a list has one at most
 unfoldable pub partNamed : ℕ → List Chunk → Option Chunk

@@ -158,6 +158,42 @@ pub enum ReadEntry {
     Refused,
 }
 
+// What a seek body says of points and order list; a number counts only where its flag is set. The order list is so many letters from a
+// place of the seek body on.
+pub struct Points {
+    pub starts: bool,
+    pub start: u32,
+    pub stops: bool,
+    pub stop: u32,
+    pub ordered: bool,
+    pub order: usize,
+    pub letters: usize,
+}
+
+// The start and stop address of a letter's phrase.
+pub enum FoundPhrase {
+    Between { start: u32, stop: u32 },
+    Nowhere,
+}
+
+// A chunk's header read at a place of a list.
+pub enum ReadChunk {
+    Is { id: u32, size: usize },
+    Cut,
+}
+
+// A chunk found in a list: the place of its header, and its body's size.
+pub enum FoundChunk {
+    At { place: usize, size: usize },
+    Nowhere,
+}
+
+// A chunk list, which says what IDs are allowed in it: the top level of a file, or the sub-chunks of a track.
+pub enum ListOf {
+    File,
+    Track(Voice),
+}
+
 // An item written into lent memory: the place after it, or nothing written, for want of room or because it is no item of the voice.
 pub enum Put {
     Done { next: usize },
