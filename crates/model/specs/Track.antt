@@ -14,6 +14,8 @@ use Rattle.model.specs.Points.{isAddress, isPosition, pointsHold, orderH
 use Rattle.model.specs.declared.Voice.{Voice}
 use Rattle.model.specs.declared.Voice.the-variants.{Score, Pcm}
 use Rattle.model.specs.declared.Event.{Event}
+use Rattle.model.specs.declared.Wanted.{Wanted}
+use Rattle.model.specs.declared.Wanted.the-variants as wanted
 use Rattle.model.specs.declared.ListOf.{ListOf}
 use Rattle.model.specs.declared.ListOf.the-variants as list
 
@@ -87,6 +89,11 @@ isWaveId id = (id / 256 ≡? Awa) and (0x01 ≤? id % 256) and (id % 256 ≤? 0x
 unfoldable pub isPart : Voice → ℕ → Bool
 isPart Score id = (id ≡? MspI) or (id ≡? Mtsu) or (id ≡? Mtsq)
 isPart Pcm id = (id ≡? AspI) or (id ≡? Atsu) or (id ≡? Atsq) or isWaveId id
+
+-- the kinds of chunk of which a list must have one
+unfoldable pub isWanted : Wanted → ℕ → Bool
+isWanted wanted.Track id = isTrack id
+isWanted wanted.Wave id = isWaveId id
 
 -- the IDs that a list allows
 unfoldable pub isAllowed : ListOf → ℕ → Bool

@@ -194,6 +194,12 @@ pub enum ListOf {
     Track(Voice),
 }
 
+// A kind of chunk that a list must have one of.
+pub enum Wanted {
+    Track,
+    Wave,
+}
+
 // An item written into lent memory: the place after it, or nothing written, for want of room or because it is no item of the voice.
 pub enum Put {
     Done { next: usize },

@@ -1,0 +1,4 @@
+pub mod Matches
+pub mod Members
+pub mod Lists
+pub mod Searches

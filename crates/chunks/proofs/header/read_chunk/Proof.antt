@@ -1,0 +1,61 @@
+use borrow.Author.Needs.{needs}
+use Rattle.chunks.proofs.header.read_chunk.Statement.{statement}
+use Rattle.chunks.proofs.header.read_chunk.Tie as tie
+use Rattle.chunks.proofs.header.read_chunk.Reads as reads
+use Rattle.chunks.proofs.header.read_chunk.Lts as lts
+use Rattle.numbers.proofs.number_4.Reads as number-4-reads
+
+-- src/header.rt:17:8
+sub-if1 : tie.Need-sub-if1
+sub-if1 c = search needs
+
+-- src/header.rt:18:9
+returns : tie.Need-returns
+returns c = ?
+
+-- src/header.rt:20:37
+add-number-4 : tie.Need-add-number-4
+add-number-4 c = search needs
+
+-- src/header.rt:20:16
+number-4-requires : tie.Need-number-4-requires
+number-4-requires c κs = search needs
+
+-- src/header.rt:20:16
+cast-size : tie.Need-cast-size
+cast-size c = search needs
+
+-- src/header.rt:21:8
+sub-if2 : tie.Need-sub-if2
+sub-if2 c = search needs
+
+-- src/header.rt:21:8
+sub-if2-2 : tie.Need-sub-if2-2
+sub-if2-2 c = search needs
+
+-- src/header.rt:22:9
+returns-2 : tie.Need-returns-2
+returns-2 c = ?
+
+-- src/header.rt:25:13
+number-4-requires-2 : tie.Need-number-4-requires-2
+number-4-requires-2 c κs = search needs
+
+-- src/header.rt:13:1
+returns-3 : tie.Need-returns-3
+returns-3 c = ?
+
+pub read-chunk-spec : {M : Type 1} → statement M
+read-chunk-spec =
+    tie.close
+    (tie.spec
+    sub-if1
+    returns
+    add-number-4
+    number-4-requires
+    cast-size
+    sub-if2
+    sub-if2-2
+    returns-2
+    number-4-requires-2
+    returns-3)
