@@ -6,5 +6,7 @@ mod item;
 
 pub use duration::read_duration;
 pub use duration::read_gate;
+pub use event::is_note;
+pub use event::is_shift;
 pub use event::read_event;
 pub use item::read_item;
