@@ -6,9 +6,13 @@ mod event;
 mod item;
 mod standard;
 
+pub use body::find_address;
 pub use body::read_body;
 pub use body::read_setup;
 pub use duration::read_duration;
 pub use duration::read_gate;
+pub use event::is_note;
+pub use event::is_shift;
 pub use event::read_event;
 pub use item::read_item;
+pub use standard::standard_value;
