@@ -1,0 +1,164 @@
+-- The check of a chunk list: the invariant of `check_list`'s loop, and what each way out of it and each turn makes of it.
+use Prim.Native.Nat.{ℕ, _+_, _-_, _*_, _<_, _≤_}
+use mathlib.Core.Path.{_≡_, refl, sym, _∙_, ap, subst}
+use mathlib.Core.Bool.{Bool, true, false, not}
+use mathlib.Core.List.{List, [], _∷_}
+use lib.ListN.{length, take, set, length-set}
+use native.Mathlib.Omega.{arith}
+use borrow.Author.Tests.{ltb-false, not-true, not-false}
+use Rattle.model.specs.Words.{if_then_else_, _or_, _≡?_, any, Checked, Checked.fine, Checked.refused, passed, Step, Step.met, Step.stuck, walkTo, inTurn}
+use Rattle.model.specs.Bytes.{number}
+use Rattle.model.specs.Item.{checkAnswer}
+use Rattle.model.specs.Chunk.{Chunk, readChunk, chunkMet, chunkStep, allowedOnce, chunkList}
+use Rattle.model.specs.Track.{isAllowed}
+use Rattle.model.specs.declared.ListOf.{ListOf}
+use Rattle.chunks.specs.Kept.{isAmong}
+use Rattle.model.specs.declared.Check.{Check}
+use Rattle.model.specs.declared.Check.the-variants as check
+use Rattle.model.specs.declared.ReadChunk.{ReadChunk}
+use Rattle.model.specs.declared.ReadChunk.the-variants.{Is, Cut}
+use Rattle.model.proofs.Tests.{if-all}
+use Rattle.model.proofs.Walks.{withFirst, GoesOn, Left, left-starts, left-ends, left-stuck, left-refused, left-next}
+use Rattle.chunks.proofs.Members.{one-more}
+
+-- A chunk that is read has its header and its body before the list's end, and its ID is that of its four bytes.
+abbrev pub ChunkAhead : List ℕ → ℕ → ℕ → ReadChunk → Type 0
+ChunkAhead s end at (Is id size next) = (id ≡ number 4 s at) × (next ≡ at + 8 + size) × (next ≤ end)
+ChunkAhead s end at Cut = Unit
+
+pub chunk-ahead : (s : List ℕ) (end at : ℕ) → at ≤ end → ChunkAhead s end at (readChunk s end at)
+unfolding readChunk
+chunk-ahead s end at h =
+    if-all (ChunkAhead s end at) _ _ _ (λ i. tt)
+    (λ i. if-all (ChunkAhead s end at) _ _ _ (λ j. tt)
+    (λ j. (refl, refl, omega (arith, ltb-false (end - at) 8 i, ltb-false (end - at - 8) (number 4 s (at + 4)) j))))
+
+chunk-met-goes : (s : List ℕ) (end at : ℕ) (chunk : ReadChunk) → ChunkAhead s end at chunk → GoesOn end at (chunkMet at chunk)
+unfolding chunkMet
+chunk-met-goes s end at (Is id size next) a = (omega arith, a .2)
+chunk-met-goes s end at Cut a = tt
+
+pub chunk-goes : (s : List ℕ) (end at : ℕ) → at ≤ end → GoesOn end at (chunkStep s end at)
+unfolding chunkStep
+chunk-goes s end at h = chunk-met-goes s end at (readChunk s end at) (chunk-ahead s end at h)
+
+-- the check of one chunk
+module _ (allowed : ℕ → Bool) (before : List Chunk) (chunk : Chunk) where
+  not-allowed : allowed (chunk .id) ≡ false → allowedOnce allowed before chunk ≡ refused 9 (chunk .place)
+  unfolding allowedOnce if_then_else_
+  not-allowed h = rw h
+
+  again : allowed (chunk .id) ≡ true → any (λ earlier. earlier .id ≡? chunk .id) before ≡ true → allowedOnce allowed before chunk ≡ refused 6 (chunk .place)
+  unfolding allowedOnce if_then_else_
+  again h g = rw (h, g)
+
+  once : allowed (chunk .id) ≡ true → any (λ earlier. earlier .id ≡? chunk .id) before ≡ false → allowedOnce allowed before chunk ≡ passed
+  unfolding allowedOnce if_then_else_
+  once h g = rw (h, g)
+
+answer-first : (chunk : Chunk) (found : Checked (List Chunk)) → checkAnswer (withFirst chunk found) ≡ checkAnswer found
+unfolding checkAnswer withFirst
+answer-first chunk (fine all) = refl
+answer-first chunk (refused number place) = refl
+
+-- so many chunks are checked, and their IDs are kept
+pub record Checking (list : ListOf) (s : List ℕ) (start end : ℕ) (ids : List ℕ) (count at : ℕ) : Type 0 where
+  pub before : List Chunk
+  pub left : Checked (List Chunk)
+  pub walk : Left 4 end (chunkStep s end) (allowedOnce (isAllowed list)) at before left
+  pub within : end ≤ length s
+  pub small : end ≤ 65536
+  pub room : length ids ≡ 8192
+  pub few : 8 * count ≤ at
+  pub kept : (id : ℕ) → any (λ earlier. earlier .id ≡? id) before ≡ isAmong id (take count ids)
+  pub same : checkAnswer left ≡ checkAnswer (chunkList (isAllowed list) s start end)
+
+pub list-starts : (list : ListOf) (s : List ℕ) (start end : ℕ) (ids : List ℕ) → start ≤ end → end ≤ length s → end ≤ 65536 → length ids ≡ 8192
+    → Checking list s start end ids 0 start
+unfolding chunkList any isAmong
+list-starts list s start end ids h within small room =
+    record {
+      before = [];
+      left = inTurn (allowedOnce (isAllowed list)) [] (walkTo 4 end (chunkStep s end) start);
+      walk = left-starts 4 end (chunkStep s end) (allowedOnce (isAllowed list)) start h;
+      within = within;
+      small = small;
+      room = room;
+      few = omega arith;
+      kept = λ id. refl;
+      same = refl;
+    }
+
+module _ (list : ListOf) (s : List ℕ) (start end : ℕ) (ids : List ℕ) (count at : ℕ) (c : Checking list s start end ids count at) where
+  pub list-ends : end ≤ at → check.Passed ≡ checkAnswer (chunkList (isAllowed list) s start end)
+  unfolding checkAnswer
+  list-ends past = ap checkAnswer (sym (left-ends _ _ _ _ at (c .before) (c .left) (c .walk) past)) ∙ c .same
+
+  module _ (r : ReadChunk) (here : at < end) (is : r ≡ readChunk s end at) where
+    stands : (j : ReadChunk) → r ≡ j → chunkStep s end at ≡ chunkMet at j
+    unfolding chunkStep
+    stands j e = ap (chunkMet at) (sym is ∙ e)
+
+    ahead : (j : ReadChunk) → r ≡ j → ChunkAhead s end at j
+    ahead j e = subst (ChunkAhead s end at) (sym is ∙ e) (chunk-ahead s end at (omega arith))
+
+    pub list-cut : r ≡ Cut → check.Refused 4 at ≡ checkAnswer (chunkList (isAllowed list) s start end)
+    unfolding chunkMet checkAnswer
+    list-cut e = ap checkAnswer (sym (left-stuck _ _ _ _ at (c .before) (c .left) (c .walk) 4 at here (stands Cut e))) ∙ c .same
+
+    module _ (id size next : ℕ) (e : r ≡ Is id size next) where
+      pub list-there : at + 4 ≤ length s
+      list-there = let a = ahead (Is id size next) e in omega (arith, c .within)
+
+      pub list-nears : end - next < end - at
+      list-nears = let a = ahead (Is id size next) e in omega arith
+
+      pub list-room : count < 8192
+      list-room = let a = ahead (Is id size next) e in omega (arith, c .few, c .small)
+
+      chunk : Chunk
+      chunk = record { id = id; place = at; size = size }
+
+      pub list-not-allowed : (ok : Bool) → ok ≡ isAllowed list (number 4 s at) → not ok ≡ true → check.Refused 9 at ≡ checkAnswer (chunkList (isAllowed list) s start end)
+      unfolding chunk chunkMet checkAnswer
+      list-not-allowed ok p h =
+          ap checkAnswer
+          (sym (left-refused _ _ _ _ at (c .before) (c .left) (c .walk) chunk next 9 at here (stands (Is id size next) e)
+          (not-allowed (isAllowed list) (c .before) chunk (ap (isAllowed list) (ahead (Is id size next) e .0) ∙ sym p ∙ not-true ok h))))
+          ∙ c .same
+
+      module _ (ok : Bool) (p : ok ≡ isAllowed list (number 4 s at)) (h : not ok ≡ false) where
+        is-allowed : isAllowed list id ≡ true
+        is-allowed = ap (isAllowed list) (ahead (Is id size next) e .0) ∙ sym p ∙ not-false ok h
+
+        pub list-again : (twice : Bool) → twice ≡ isAmong id (take count ids) → twice ≡ true
+            → check.Refused 6 at ≡ checkAnswer (chunkList (isAllowed list) s start end)
+        unfolding chunk chunkMet checkAnswer
+        list-again twice q g =
+            ap checkAnswer
+            (sym (left-refused _ _ _ _ at (c .before) (c .left) (c .walk) chunk next 6 at here (stands (Is id size next) e)
+            (again (isAllowed list) (c .before) chunk is-allowed (c .kept id ∙ sym q ∙ g))))
+            ∙ c .same
+
+        pub list-goes-on : (twice : Bool) → twice ≡ isAmong id (take count ids) → twice ≡ false
+            → Checking list s start end (set ids count id) (count + 1) next
+        unfolding chunk chunkMet any
+        list-goes-on twice q g =
+            let a = ahead (Is id size next) e in
+            let near : (at < next) × (next ≤ end) = (omega arith, a .2) in
+            let n =
+            left-next _ _ _ _ at (c .before) (c .left) (c .walk) chunk next here (stands (Is id size next) e)
+            (near .0, near .1) (once (isAllowed list) (c .before) chunk is-allowed (c .kept id ∙ sym q ∙ g)) in
+            record {
+              before = chunk ∷ c .before;
+              left = n .0;
+              walk = n .1;
+              within = c .within;
+              small = c .small;
+              room = length-set ids count id ∙ c .room;
+              few = omega (arith, c .few);
+              kept = λ other. ap (λ (b : Bool). (id ≡? other) or b) (c .kept other) ∙ sym (one-more other id ids count (omega (arith, c .few, c .room, c .small)));
+              same = sym (answer-first chunk (n .0)) ∙ ap checkAnswer (sym (n .2)) ∙ c .same;
+            }
+
+pub ruleset listing = (list-starts, list-ends, list-cut, list-there, list-nears, list-room, list-not-allowed, list-again, list-goes-on)

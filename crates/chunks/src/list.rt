@@ -2,19 +2,20 @@
 ghost use mathlib.Core.Path.{_≡_};
 ghost use Prim.Native.Nat.{_≤_};
 ghost use lib.ListN.{length, take};
-ghost use Rattle.model.specs.Words.{any, _≡?_};
 ghost use Rattle.model.specs.Item.{checkAnswer};
 ghost use Rattle.model.specs.Chunk.{chunkList};
 ghost use Rattle.model.specs.Track.{isAllowed};
+ghost use Rattle.chunks.specs.Kept.{isAmong};
+use super::header::is_allowed;
+use super::header::read_chunk;
 use model::Check;
 use model::ListOf;
 use model::ReadChunk;
-use super::header::{is_allowed, read_chunk};
 
 // Whether an ID is among the first of those kept.
 fn has(ids: &[u32], count: usize, id: u32) -> bool
     requires { ⌜ count ≤ length (now ids) ⌝ }
-    ensures { λ r. ⌜ r ≡ any (λ other. other ≡? id) (take count (now (ids .entry))) ⌝ }
+    ensures { λ r. ⌜ r ≡ isAmong id (take count (now (ids .entry))) ⌝ }
 {
     let mut i = 0;
     while i < count {
@@ -34,7 +35,7 @@ pub fn check_list(list: ListOf, s: &[u8], start: usize, end: usize) -> Check
     let mut count: usize = 0;
     let mut at = start;
     while at < end {
-        let ReadChunk::Is { id, size } = read_chunk(s, end, at) else {
+        let ReadChunk::Is { id, size: _, next } = read_chunk(s, end, at) else {
             return Check::Refused {
                 number: 4,
                 place: at,
@@ -54,7 +55,7 @@ pub fn check_list(list: ListOf, s: &[u8], start: usize, end: usize) -> Check
         }
         ids[count] = id;
         count += 1;
-        at = at + 8 + size;
+        at = next;
     }
     Check::Passed
 }

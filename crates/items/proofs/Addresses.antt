@@ -1,14 +1,14 @@
 -- The search for an address: the invariant of `find_address`'s loop, and what each way out of it and each turn makes of it.
 use Prim.Native.Nat.{ℕ, zero, suc, _+_, _-_, _*_, _<_, _≤_}
 use mathlib.Core.List.{List, [], _∷_}
-use mathlib.Core.Bool.{Bool, true, false, false≢true}
+use mathlib.Core.Bool.{Bool, true, false}
 use mathlib.Core.Path.{_≡_, refl, sym, _∙_, ap, ap₂, subst}
 use lib.ListN.{length}
 use native.Mathlib.Nat.{add-zero, zero-add, add-assoc}
 use native.Mathlib.Omega.{arith}
 use borrow.Author.Tests.{eq-eqb, ne-eqb, lt-ltb, le-ltb}
-use Rattle.model.specs.Words.{if_then_else_, _or_, _<?_, _≡?_, any, keep, sum, Placed, Checked, Checked.fine, Checked.refused, Step, Step.met, Step.stuck}
-use Rattle.model.specs.Item.{Item, Item.timed, Item.endMark, durationOf, lasting, itemAt, itemMet, itemStep, bodyOf, found, isFine, itemsOf}
+use Rattle.model.specs.Words.{if_then_else_, _or_, _<?_, _≡?_, any, keep, sum, Placed, Checked, Checked.fine, Step, Step.met, Step.stuck}
+use Rattle.model.specs.Item.{Item, Item.timed, Item.endMark, durationOf, lasting, itemAt, itemMet, itemStep, bodyOf, isFine, itemsOf}
 use Rattle.model.specs.Points.{isAddress, timeOf, addressAnswer}
 use Rattle.model.specs.declared.Voice.{Voice}
 use Rattle.model.specs.declared.Event.{Event}
@@ -16,7 +16,7 @@ use Rattle.model.specs.declared.ReadItem.{ReadItem}
 use Rattle.model.specs.declared.ReadItem.the-variants.{Timed, EndMark, Refused}
 use Rattle.model.specs.declared.Address.{Address}
 use Rattle.model.specs.declared.Address.the-variants.{At, Nowhere}
-use Rattle.model.proofs.Walks.{GoesOn, Stand}
+use Rattle.model.proofs.Walks.{GoesOn, Stand, fine-found}
 use Rattle.items.proofs.Standing.{body-stands}
 use Rattle.items.proofs.Ahead.{item-goes}
 
@@ -55,11 +55,6 @@ pub record Seeking (voice : Voice) (s : List ℕ) (address at time : ℕ) : Type
   pub small : time ≤ 4294967296 * at
   pub there : isThere rest (length s) address ≡ isAddress (itemsOf voice s) (length s) address
   pub times : time + timeIn rest address ≡ timeOf (itemsOf voice s) address
-
-fine-found : {A : Type 0} (c : Checked (List A)) → isFine c ≡ true → c ≡ fine (found c)
-unfolding isFine found
-fine-found (fine all) h = refl
-fine-found (refused number place) h = absurd (false≢true h)
 
 -- a body that reads reads to its items
 pub reads-to-items : (voice : Voice) (s : List ℕ) → isFine (bodyOf voice s) ≡ true → bodyOf voice s ≡ fine (itemsOf voice s)

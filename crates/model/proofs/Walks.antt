@@ -1,13 +1,14 @@
 -- Laws of walks through bytes and of checks in turn, for every kind of thing that is walked over: items, setup messages, chunks, seek
 -- entries.
 use Prim.Native.Nat.{ℕ, zero, suc, _+_, _-_, _<_, _≤_}
-use mathlib.Core.Bool.{Bool, true, false}
+use mathlib.Core.Bool.{Bool, true, false, false≢true}
 use mathlib.Core.List.{List, [], _∷_}
 use mathlib.Core.Path.{_≡_, refl, sym, _∙_, ap, subst}
 use mathlib.Core.Logic.{_↔_}
 use native.Mathlib.Omega.{arith}
 use borrow.Author.Tests.{le-leb, lt-leb, leb-true, leb-false}
 use Rattle.model.specs.Words.{if_then_else_, _≤?_, Checked, Checked.fine, Checked.refused, passed, _>>=_, _>>_, Walk, Walk.over, Walk.broken, Walk._then_, Step, Step.met, Step.stuck, onward, walkFrom, walkTo, inTurn}
+use Rattle.model.specs.Item.{isFine, found}
 use Rattle.model.proofs.Tests.{by-test}
 
 -- what is met first
@@ -127,6 +128,12 @@ in-turn-fine {A} check before a walk all e = go (check before a) refl
         let q = sym (in-turn-refuses check before a walk number place h) ∙ e in
         let z : _≡_ {A = ℕ} 0 1 = cc in
         absurd (omega arith)
+
+-- what is found where nothing is refused
+pub fine-found : {A : Type 0} (c : Checked (List A)) → isFine c ≡ true → c ≡ fine (found c)
+unfolding isFine found
+fine-found (fine all) h = refl
+fine-found (refused number place) h = absurd (false≢true h)
 
 -- THINGS STAND one after the other from a place up to an end.
 abbrev pub Stand : {A : Type 0} → ℕ → (ℕ → Step A) → ℕ → List A → Type 0

@@ -35,10 +35,10 @@ unfoldable pub readChunk : List ℕ → ℕ → ℕ → ReadChunk
 readChunk s end at =
     if end - at <? 8 then Cut else
     if end - at - 8 <? number 4 s (at + 4) then Cut else
-    Is (number 4 s at) (number 4 s (at + 4))
+    Is (number 4 s at) (number 4 s (at + 4)) (at + 8 + number 4 s (at + 4))
 
 unfoldable pub chunkMet : ℕ → ReadChunk → Step Chunk
-chunkMet at (Is id size) = met (record { id = id; place = at; size = size }) (at + 8 + size)
+chunkMet at (Is id size next) = met (record { id = id; place = at; size = size }) next
 chunkMet at Cut = stuck 4 at
 
 unfoldable pub chunkStep : List ℕ → ℕ → ℕ → Step Chunk

@@ -4,12 +4,13 @@ use mathlib.Core.List.{List, [], _∷_, _++_, map}
 use mathlib.Core.Bool.{Bool, true, false, not}
 use mathlib.Core.Option.{Option, none, some}
 use lib.ListN.{length, take}
-use Rattle.model.specs.Words.{if_then_else_, _and_, _or_, _<?_, _≤?_, _≡?_, any, Checked, Checked.fine, Checked.refused, passed, _>>=_, _>>_, each}
+use Rattle.model.specs.Words.{if_then_else_, _and_, _or_, _<?_, _≤?_, _≡?_, Checked, Checked.fine, Checked.refused, passed, _>>=_, _>>_, each}
 use Rattle.model.specs.Bytes.{number, MMMD, CNTI}
 use Rattle.model.specs.CheckCode.{checkCode}
 use Rattle.model.specs.Chunk.{Chunk, chunkAt, chunkList}
-use Rattle.model.specs.Track.{Track, isTrack, voiceOf, trackOf}
+use Rattle.model.specs.Track.{Track, hasOne, voiceOf, trackOf}
 use Rattle.model.specs.declared.Voice.{Voice}
+use Rattle.model.specs.declared.Wanted.the-variants as wanted
 
 -- A chunk of the top level: a closed leaf, or a readable track.
 pub data Top : Type 0 where
@@ -36,7 +37,7 @@ frameOf s = do
   if number 4 s 4 + 8 ≡? length s then passed else refused 3 4
   chunks ← chunkList (λ id. true) s 8 (length s - 2)
   if opensWithContents chunks then passed else refused 5 8
-  if any (λ chunk. isTrack (chunk .id)) chunks then passed else refused 7 (length s - 2)
+  if hasOne wanted.Track chunks then passed else refused 7 (length s - 2)
   fine chunks
 
 -- each track in file order

@@ -95,6 +95,9 @@ unfoldable pub isWanted : Wanted → ℕ → Bool
 isWanted wanted.Track id = isTrack id
 isWanted wanted.Wave id = isWaveId id
 
+unfoldable pub hasOne : Wanted → List Chunk → Bool
+hasOne kind chunks = any (λ chunk. isWanted kind (chunk .id)) chunks
+
 -- the IDs that a list allows
 unfoldable pub isAllowed : ListOf → ℕ → Bool
 isAllowed list.File id = true
@@ -111,7 +114,7 @@ required header (some chunk) = fine chunk
 
 unfoldable pub hasWaves : Voice → List Chunk → Bool
 hasWaves Score parts = true
-hasWaves Pcm parts = any (λ chunk. isWaveId (chunk .id)) parts
+hasWaves Pcm parts = hasOne wanted.Wave parts
 
 -- 10, where there is a setup chunk
 unfoldable pub setupHolds : List ℕ → Option Chunk → Checked (Unit {0})

@@ -176,9 +176,9 @@ pub enum FoundPhrase {
     Nowhere,
 }
 
-// A chunk's header read at a place of a list.
+// A chunk read at a place of a list, and the place after it.
 pub enum ReadChunk {
-    Is { id: u32, size: usize },
+    Is { id: u32, size: usize, next: usize },
     Cut,
 }
 

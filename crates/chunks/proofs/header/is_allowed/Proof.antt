@@ -1,3 +1,5 @@
+use Rattle.model.proofs.Tests.{tests}
+use Rattle.chunks.proofs.Matches.{matches}
 use borrow.Author.Needs.{needs}
 use Rattle.chunks.proofs.header.is_allowed.Statement.{statement}
 use Rattle.chunks.proofs.header.is_allowed.Tie as tie
@@ -19,11 +21,11 @@ is-part-requires c κs = search needs
 
 -- src/header.rt:109:1
 returns : tie.Need-returns
-returns c = ?
+returns c = search (tests, matches) depth 9 fits 20000
 
 -- src/header.rt:109:1
 returns-2 : tie.Need-returns-2
-returns-2 c = ?
+returns-2 c = search (tests, matches) depth 9 fits 20000
 
 pub is-allowed-spec : {M : Type 1} → statement M
 is-allowed-spec = tie.close (tie.spec enum-told enum-known-list is-part-requires returns returns-2)

@@ -1,3 +1,6 @@
+use Rattle.model.proofs.Tests.{tests}
+use Rattle.model.proofs.Tests.{junctions}
+use Rattle.model.specs.Track.{isPart}
 use borrow.Author.Needs.{needs}
 use Rattle.chunks.proofs.header.is_pcm_part.Statement.{statement}
 use Rattle.chunks.proofs.header.is_pcm_part.Tie as tie
@@ -12,7 +15,8 @@ same-id-requires c κs = search needs
 
 -- src/header.rt:88:9
 returns : tie.Need-returns
-returns c = ?
+unfolding isPart
+returns c = search (tests, junctions) depth 9 fits 20000
 
 -- src/header.rt:90:8
 same-id-requires-2 : tie.Need-same-id-requires-2
@@ -20,7 +24,8 @@ same-id-requires-2 c κs = search needs
 
 -- src/header.rt:91:9
 returns-2 : tie.Need-returns-2
-returns-2 c = ?
+unfolding isPart
+returns-2 c = search (tests, junctions) depth 9 fits 20000
 
 -- src/header.rt:93:8
 same-id-requires-3 : tie.Need-same-id-requires-3
@@ -28,7 +33,8 @@ same-id-requires-3 c κs = search needs
 
 -- src/header.rt:94:9
 returns-3 : tie.Need-returns-3
-returns-3 c = ?
+unfolding isPart
+returns-3 c = search (tests, junctions) depth 9 fits 20000
 
 -- src/header.rt:96:5
 is-wave-id-requires : tie.Need-is-wave-id-requires
@@ -36,7 +42,8 @@ is-wave-id-requires c κs = search needs
 
 -- src/header.rt:83:1
 returns-4 : tie.Need-returns-4
-returns-4 c = ?
+unfolding isPart
+returns-4 c = search (tests, junctions) depth 9 fits 20000
 
 pub is-pcm-part-spec : {M : Type 1} → statement M
 is-pcm-part-spec =

@@ -1,3 +1,6 @@
+use Rattle.model.proofs.Tests.{tests}
+use Rattle.model.proofs.Tests.{junctions}
+use Rattle.model.specs.Track.{isPart}
 use borrow.Author.Needs.{needs}
 use Rattle.chunks.proofs.header.is_score_part.Statement.{statement}
 use Rattle.chunks.proofs.header.is_score_part.Tie as tie
@@ -11,7 +14,8 @@ same-id-requires c κs = search needs
 
 -- src/header.rt:75:9
 returns : tie.Need-returns
-returns c = ?
+unfolding isPart
+returns c = search (tests, junctions) depth 9 fits 20000
 
 -- src/header.rt:77:8
 same-id-requires-2 : tie.Need-same-id-requires-2
@@ -19,7 +23,8 @@ same-id-requires-2 c κs = search needs
 
 -- src/header.rt:78:9
 returns-2 : tie.Need-returns-2
-returns-2 c = ?
+unfolding isPart
+returns-2 c = search (tests, junctions) depth 9 fits 20000
 
 -- src/header.rt:80:5
 same-id-requires-3 : tie.Need-same-id-requires-3
@@ -27,7 +32,8 @@ same-id-requires-3 c κs = search needs
 
 -- src/header.rt:70:1
 returns-3 : tie.Need-returns-3
-returns-3 c = ?
+unfolding isPart
+returns-3 c = search (tests, junctions) depth 9 fits 20000
 
 pub is-score-part-spec : {M : Type 1} → statement M
 is-score-part-spec =

@@ -1,3 +1,6 @@
+use Rattle.model.proofs.Tests.{tests}
+use Rattle.model.proofs.Tests.{junctions}
+use Rattle.model.specs.Track.{isTrack}
 use borrow.Author.Needs.{needs}
 use Rattle.chunks.proofs.header.is_track.Statement.{statement}
 use Rattle.chunks.proofs.header.is_track.Tie as tie
@@ -12,7 +15,8 @@ same-family-requires c κs = search needs
 
 -- src/header.rt:35:9
 returns : tie.Need-returns
-returns c = ?
+unfolding isTrack
+returns c = search (tests, junctions) depth 9 fits 20000
 
 -- src/header.rt:37:8
 same-family-requires-2 : tie.Need-same-family-requires-2
@@ -20,7 +24,8 @@ same-family-requires-2 c κs = search needs
 
 -- src/header.rt:38:9
 returns-2 : tie.Need-returns-2
-returns-2 c = ?
+unfolding isTrack
+returns-2 c = search (tests, junctions) depth 9 fits 20000
 
 -- src/header.rt:40:8
 same-family-requires-3 : tie.Need-same-family-requires-3
@@ -28,7 +33,8 @@ same-family-requires-3 c κs = search needs
 
 -- src/header.rt:41:9
 returns-3 : tie.Need-returns-3
-returns-3 c = ?
+unfolding isTrack
+returns-3 c = search (tests, junctions) depth 9 fits 20000
 
 -- src/header.rt:43:5
 same-id-requires : tie.Need-same-id-requires
@@ -36,7 +42,8 @@ same-id-requires c κs = search needs
 
 -- src/header.rt:30:1
 returns-4 : tie.Need-returns-4
-returns-4 c = ?
+unfolding isTrack
+returns-4 c = search (tests, junctions) depth 9 fits 20000
 
 pub is-track-spec : {M : Type 1} → statement M
 is-track-spec =

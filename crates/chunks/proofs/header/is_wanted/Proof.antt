@@ -1,3 +1,5 @@
+use Rattle.model.proofs.Tests.{tests}
+use Rattle.chunks.proofs.Matches.{matches}
 use borrow.Author.Needs.{needs}
 use Rattle.chunks.proofs.header.is_wanted.Statement.{statement}
 use Rattle.chunks.proofs.header.is_wanted.Tie as tie
@@ -24,11 +26,11 @@ is-wave-id-requires c κs = search needs
 
 -- src/header.rt:60:1
 returns : tie.Need-returns
-returns c = ?
+returns c = search (tests, matches) depth 9 fits 20000
 
 -- src/header.rt:60:1
 returns-2 : tie.Need-returns-2
-returns-2 c = ?
+returns-2 c = search (tests, matches) depth 9 fits 20000
 
 pub is-wanted-spec : {M : Type 1} → statement M
 is-wanted-spec =

@@ -1,3 +1,6 @@
+use Rattle.model.proofs.Tests.{tests}
+use Rattle.chunks.proofs.Matches.{numbers}
+use Rattle.model.specs.Chunk.{readChunk}
 use borrow.Author.Needs.{needs}
 use Rattle.chunks.proofs.header.read_chunk.Statement.{statement}
 use Rattle.chunks.proofs.header.read_chunk.Tie as tie
@@ -11,7 +14,8 @@ sub-if1 c = search needs
 
 -- src/header.rt:18:9
 returns : tie.Need-returns
-returns c = ?
+unfolding readChunk
+returns c = search (tests, numbers) depth 9 fits 20000
 
 -- src/header.rt:20:37
 add-number-4 : tie.Need-add-number-4
@@ -35,15 +39,25 @@ sub-if2-2 c = search needs
 
 -- src/header.rt:22:9
 returns-2 : tie.Need-returns-2
-returns-2 c = ?
+unfolding readChunk
+returns-2 c = search (tests, numbers) depth 9 fits 20000
 
 -- src/header.rt:25:13
 number-4-requires-2 : tie.Need-number-4-requires-2
 number-4-requires-2 c κs = search needs
 
+-- src/header.rt:27:15
+add-t5 : tie.Need-add-t5
+add-t5 c = search needs
+
+-- src/header.rt:27:15
+add-t8 : tie.Need-add-t8
+add-t8 c = search needs
+
 -- src/header.rt:13:1
 returns-3 : tie.Need-returns-3
-returns-3 c = ?
+unfolding readChunk
+returns-3 c = search (tests, numbers) depth 9 fits 20000
 
 pub read-chunk-spec : {M : Type 1} → statement M
 read-chunk-spec =
@@ -58,4 +72,6 @@ read-chunk-spec =
     sub-if2-2
     returns-2
     number-4-requires-2
+    add-t5
+    add-t8
     returns-3)

@@ -1,3 +1,8 @@
+use borrow.Author.Needs.{needs}
+use Prim.Native.Nat.{_-_}
+use Rattle.model.specs.Track.{partNamed}
+use Rattle.model.specs.Bytes.{number}
+use Rattle.chunks.proofs.Searches.{Remaining, finding, remaining}
 use Rattle.chunks.proofs.search.find_chunk.Statement.{statement}
 use Rattle.chunks.proofs.search.find_chunk.Tie as tie
 use Rattle.chunks.proofs.search.find_chunk.Reads as reads
@@ -6,58 +11,40 @@ use Rattle.chunks.proofs.header.read_chunk.Reads as read-chunk-reads
 use Rattle.numbers.proofs.same_id.Reads as same-id-reads
 
 abbrev Inv-loop : tie.InvT-loop
-Inv-loop s start end id at₀ at = ?
+Inv-loop s start end id at₀ at = Remaining (partNamed (number 4 id 0)) s start end at
 
 abbrev μ-loop : tie.MeasureT-loop
-μ-loop s start end id at₀ at = ?
+μ-loop s start end id at₀ at = end - at
 
--- src/search.rt:24:5
 loop-holds : tie.Need-loop-holds Inv-loop μ-loop
-loop-holds c = ?
+loop-holds c = search (needs, finding, remaining)
 
--- src/search.rt:25:45
 read-chunk-requires : tie.Need-read-chunk-requires Inv-loop μ-loop
-read-chunk-requires c κs = ?
+read-chunk-requires c κs = search (needs, finding, remaining)
 
--- src/search.rt:25:36
 enum-known-size : tie.Need-enum-known-size Inv-loop μ-loop
-enum-known-size c = ?
+enum-known-size c = search (needs, finding, remaining)
 
--- src/search.rt:26:13
 enum-told : tie.Need-enum-told Inv-loop μ-loop
-enum-told c = ?
+enum-told c = search (needs, finding, remaining)
 
--- src/search.rt:26:13
 returns : tie.Need-returns Inv-loop μ-loop
-returns c = ?
+returns c = search (needs, finding, remaining)
 
--- src/search.rt:28:12
 same-id-requires : tie.Need-same-id-requires Inv-loop μ-loop
-same-id-requires c κs = ?
+same-id-requires c κs = search (needs, finding, remaining)
 
--- src/search.rt:29:13
 returns-2 : tie.Need-returns-2 Inv-loop μ-loop
-returns-2 c = ?
+returns-2 c = search (needs, finding, remaining)
 
--- src/search.rt:31:14
-add-at : tie.Need-add-at Inv-loop μ-loop
-add-at c = ?
-
--- src/search.rt:31:14
-add-at-2 : tie.Need-add-at-2 Inv-loop μ-loop
-add-at-2 c = ?
-
--- src/search.rt:24:5
 loop-less : tie.Need-loop-less Inv-loop μ-loop
-loop-less c = ?
+loop-less c = search (needs, finding, remaining)
 
--- src/search.rt:24:5
 loop-again : tie.Need-loop-again Inv-loop μ-loop
-loop-again c = ?
+loop-again c = search (needs, finding, remaining)
 
--- src/search.rt:18:1
 returns-3 : tie.Need-returns-3 Inv-loop μ-loop
-returns-3 c = ?
+returns-3 c = search (needs, finding, remaining)
 
 pub find-chunk-spec : {M : Type 1} → statement M
 find-chunk-spec =
@@ -72,8 +59,6 @@ find-chunk-spec =
     returns
     same-id-requires
     returns-2
-    add-at
-    add-at-2
     loop-less
     loop-again
     returns-3)

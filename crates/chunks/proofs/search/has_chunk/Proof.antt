@@ -1,3 +1,7 @@
+use borrow.Author.Needs.{needs}
+use Prim.Native.Nat.{_-_}
+use Rattle.model.specs.Track.{hasOne}
+use Rattle.chunks.proofs.Searches.{Remaining, having, remaining}
 use Rattle.chunks.proofs.search.has_chunk.Statement.{statement}
 use Rattle.chunks.proofs.search.has_chunk.Tie as tie
 use Rattle.chunks.proofs.search.has_chunk.Reads as reads
@@ -6,58 +10,40 @@ use Rattle.chunks.proofs.header.is_wanted.Reads as is-wanted-reads
 use Rattle.chunks.proofs.header.read_chunk.Reads as read-chunk-reads
 
 abbrev Inv-loop : tie.InvT-loop
-Inv-loop s start end wanted at₀ at = ?
+Inv-loop s start end wanted at₀ at = Remaining (hasOne wanted) s start end at
 
 abbrev μ-loop : tie.MeasureT-loop
-μ-loop s start end wanted at₀ at = ?
+μ-loop s start end wanted at₀ at = end - at
 
--- src/search.rt:43:5
 loop-holds : tie.Need-loop-holds Inv-loop μ-loop
-loop-holds c = ?
+loop-holds c = search (needs, having, remaining)
 
--- src/search.rt:44:45
 read-chunk-requires : tie.Need-read-chunk-requires Inv-loop μ-loop
-read-chunk-requires c κs = ?
+read-chunk-requires c κs = search (needs, having, remaining)
 
--- src/search.rt:44:36
-enum-known-size : tie.Need-enum-known-size Inv-loop μ-loop
-enum-known-size c = ?
+enum-known-next : tie.Need-enum-known-next Inv-loop μ-loop
+enum-known-next c = search (needs, having, remaining)
 
--- src/search.rt:45:13
 enum-told : tie.Need-enum-told Inv-loop μ-loop
-enum-told c = ?
+enum-told c = search (needs, having, remaining)
 
--- src/search.rt:45:13
 returns : tie.Need-returns Inv-loop μ-loop
-returns c = ?
+returns c = search (needs, having, remaining)
 
--- src/search.rt:47:12
 is-wanted-requires : tie.Need-is-wanted-requires Inv-loop μ-loop
-is-wanted-requires c κs = ?
+is-wanted-requires c κs = search (needs, having, remaining)
 
--- src/search.rt:48:13
 returns-2 : tie.Need-returns-2 Inv-loop μ-loop
-returns-2 c = ?
+returns-2 c = search (needs, having, remaining)
 
--- src/search.rt:50:14
-add-at : tie.Need-add-at Inv-loop μ-loop
-add-at c = ?
-
--- src/search.rt:50:14
-add-at-2 : tie.Need-add-at-2 Inv-loop μ-loop
-add-at-2 c = ?
-
--- src/search.rt:43:5
 loop-less : tie.Need-loop-less Inv-loop μ-loop
-loop-less c = ?
+loop-less c = search (needs, having, remaining)
 
--- src/search.rt:43:5
 loop-again : tie.Need-loop-again Inv-loop μ-loop
-loop-again c = ?
+loop-again c = search (needs, having, remaining)
 
--- src/search.rt:37:1
 returns-3 : tie.Need-returns-3 Inv-loop μ-loop
-returns-3 c = ?
+returns-3 c = search (needs, having, remaining)
 
 pub has-chunk-spec : {M : Type 1} → statement M
 has-chunk-spec =
@@ -67,13 +53,11 @@ has-chunk-spec =
     μ-loop
     loop-holds
     read-chunk-requires
-    enum-known-size
+    enum-known-next
     enum-told
     returns
     is-wanted-requires
     returns-2
-    add-at
-    add-at-2
     loop-less
     loop-again
     returns-3)
