@@ -8,9 +8,10 @@ use Rattle.model.specs.Words.{if_then_else_, _and_, _or_, _<?_, _≤?_, 
 use Rattle.model.specs.Bytes.{number, MMMD, CNTI}
 use Rattle.model.specs.CheckCode.{checkCode}
 use Rattle.model.specs.Chunk.{Chunk, chunkAt, chunkList}
-use Rattle.model.specs.Track.{Track, hasOne, voiceOf, trackOf}
+use Rattle.model.specs.Track.{Track, hasOne, isAllowed, voiceOf, trackOf}
 use Rattle.model.specs.declared.Voice.{Voice}
 use Rattle.model.specs.declared.Wanted.the-variants as wanted
+use Rattle.model.specs.declared.ListOf.the-variants as list
 
 -- A chunk of the top level: a closed leaf, or a readable track.
 pub data Top : Type 0 where
@@ -35,7 +36,7 @@ unfoldable pub frameOf : List ℕ → Checked (List Chunk)
 frameOf s = do
   if (length s <? 10) or not (number 4 s 0 ≡? MMMD) then refused 2 0 else passed
   if number 4 s 4 + 8 ≡? length s then passed else refused 3 4
-  chunks ← chunkList (λ id. true) s 8 (length s - 2)
+  chunks ← chunkList (isAllowed list.File) s 8 (length s - 2)
   if opensWithContents chunks then passed else refused 5 8
   if hasOne wanted.Track chunks then passed else refused 7 (length s - 2)
   fine chunks

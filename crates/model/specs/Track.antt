@@ -14,6 +14,8 @@ use Rattle.model.specs.Points.{isAddress, isPosition, pointsHold, orderH
 use Rattle.model.specs.declared.Voice.{Voice}
 use Rattle.model.specs.declared.Voice.the-variants.{Score, Pcm}
 use Rattle.model.specs.declared.Event.{Event}
+use Rattle.model.specs.declared.Part.{Part}
+use Rattle.model.specs.declared.Part.the-variants as part
 use Rattle.model.specs.declared.Wanted.{Wanted}
 use Rattle.model.specs.declared.Wanted.the-variants as wanted
 use Rattle.model.specs.declared.ListOf.{ListOf}
@@ -71,17 +73,13 @@ fixedHolds voice s chunk =
     passed
 
 -- Sub-chunks, in any order.
-abbrev pub seekId : Voice → ℕ
-seekId Score = MspI
-seekId Pcm = AspI
-
-abbrev pub setupId : Voice → ℕ
-setupId Score = Mtsu
-setupId Pcm = Atsu
-
-abbrev pub sequenceId : Voice → ℕ
-sequenceId Score = Mtsq
-sequenceId Pcm = Atsq
+abbrev pub partId : Part → Voice → ℕ
+partId part.Seek Score = MspI
+partId part.Seek Pcm = AspI
+partId part.Setup Score = Mtsu
+partId part.Setup Pcm = Atsu
+partId part.Sequence Score = Mtsq
+partId part.Sequence Pcm = Atsq
 
 unfoldable pub isWaveId : ℕ → Bool
 isWaveId id = (id / 256 ≡? Awa) and (0x01 ≤? id % 256) and (id % 256 ≤? 0x3E)
@@ -147,13 +145,14 @@ entriesOf phrases items size s (some chunk) =
 unfoldable pub trackOf : List ℕ → Voice → Chunk → Checked Track
 trackOf s voice chunk = do
   fixedHolds voice s chunk
-  parts ← chunkList (isPart voice) s (bodyPlace chunk + fixedSize) (placeAfter chunk)
-  sequence ← required (chunk .place) (partNamed (sequenceId voice) parts)
+  parts ← chunkList (isAllowed (list.Track voice)) s (bodyPlace chunk + fixedSize) (placeAfter chunk)
+  sequence ← required (chunk .place) (partNamed (partId part.Sequence voice) parts)
   if hasWaves voice parts then passed else refused 9 (chunk .place)
-  setupHolds s (partNamed (setupId voice) parts)
-  items ← countedFrom (bodyPlace sequence) (bodyOf voice (bodyBytes s sequence))
+  setupHolds s (partNamed (partId part.Setup voice) parts)
+  let body = bodyBytes s sequence
+  items ← countedFrom (bodyPlace sequence) (bodyOf voice body)
   let phrases = s ! (bodyPlace chunk + 1) ≡? 1
-  entries ← entriesOf phrases items (sequence .size) s (partNamed (seekId voice) parts)
+  entries ← entriesOf phrases items (length body) s (partNamed (partId part.Seek voice) parts)
   fine
       (record {
         header = chunk .place;
@@ -162,7 +161,7 @@ trackOf s voice chunk = do
         baseD = s ! (bodyPlace chunk + placeOfD voice);
         baseG = s ! (bodyPlace chunk + placeOfG voice);
         parts = parts;
-        body = bodyBytes s sequence;
+        body = body;
         items = items;
         entries = entries;
       })

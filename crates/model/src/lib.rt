@@ -194,6 +194,13 @@ pub enum ListOf {
     Track(Voice),
 }
 
+// The sub-chunks of a track that are read: its seek, setup and sequence chunk.
+pub enum Part {
+    Seek,
+    Setup,
+    Sequence,
+}
+
 // A kind of chunk that a list must have one of.
 pub enum Wanted {
     Track,
