@@ -34,7 +34,7 @@ met-at at end (EndMark n) item next e = let same : _≡_ {A = Placed (Item Event
 met-at at end (Refused number place) item next e = let z : _≡_ {A = ℕ} 0 1 = cc in absurd (omega arith)
 
 module _ (voice : Voice) (s : List ℕ) (at : ℕ) (item : Placed (Item Event)) (next : ℕ) (e : itemStep voice s at ≡ met item next) where
-  placed-at : item .place ≡ at
+  pub placed-at : item .place ≡ at
   unfolding itemStep
   placed-at = met-at at (length s) (itemAt voice s at) item next e
 

@@ -4,3 +4,4 @@ pub mod Reading
 pub mod Setup
 pub mod Standing
 pub mod Addresses
+pub mod Within

@@ -198,3 +198,52 @@ module _ {A : Type 0} (number end : ℕ) (step : ℕ → Step A) (check : List A
   unfolding walkTo
   stand-iff start all h =
       ((λ e. all-met (suc end) start [] all (omega arith) h e), (λ p. meets all [] (suc end) start (p .0) (p .1) (omega arith) h))
+
+-- A REFUSAL of a walk has a place within it, where those of its steps and checks do.
+
+first-refused : {A : Type 0} (a : A) (found : Checked (List A)) (n place : ℕ) → withFirst a found ≡ refused n place → found ≡ refused n place
+unfolding withFirst
+first-refused a (fine all) n place e = let z : _≡_ {A = ℕ} 0 1 = cc in absurd (omega arith)
+first-refused a (refused number at) n place e = e
+
+same-place : {A : Type 0} (m at n place : ℕ) → _≡_ {A = Checked (List A)} (refused m at) (refused n place) → at ≡ place
+same-place m at n place e = cc
+
+module _ {A : Type 0} (number end : ℕ) (step : ℕ → Step A) (check : List A → A → Checked (Unit {0}))
+         (goes : (at : ℕ) → at ≤ end → GoesOn end at (step at))
+         (stuck-within : (at n place : ℕ) → at ≤ end → step at ≡ stuck n place → place ≤ end)
+         (check-within : (at next n place : ℕ) (a : A) (before : List A) → at ≤ end → step at ≡ met a next → check before a ≡ refused n place → place ≤ end) where
+  abbrev Within : ℕ → Type 0
+  Within turns = (at : ℕ) (before : List A) (n place : ℕ) → at ≤ end → inTurn check before (walkFrom number end step turns at) ≡ refused n place → place ≤ end
+
+  checked-within : (turns at next : ℕ) (a : A) (before : List A) (n place : ℕ) → Within turns → at ≤ end → step at ≡ met a next → next ≤ end
+      → (c : Checked (Unit {0})) → check before a ≡ c → inTurn check before (a then walkFrom number end step turns next) ≡ refused n place → place ≤ end
+  checked-within turns at next a before n place rest h is on (fine u) q e =
+      rest next (a ∷ before) n place on (first-refused a _ n place (sym (in-turn-passes check before a _ q) ∙ e))
+  checked-within turns at next a before n place rest h is on (refused m there) q e =
+      subst (λ (k : ℕ). k ≤ end) (same-place {A = A} m there n place (sym (in-turn-refuses check before a _ m there q) ∙ e))
+      (check-within at next m there a before h is q)
+
+  met-within : (turns at : ℕ) (before : List A) (n place : ℕ) → Within turns → at ≤ end → (stands : Step A) → step at ≡ stands
+      → inTurn check before (onward stands (λ next. walkFrom number end step turns next)) ≡ refused n place → place ≤ end
+  unfolding onward
+  met-within turns at before n place rest h (met a next) is e =
+      let g : GoesOn end at (met a next) = subst (GoesOn end at) is (goes at h) in
+      checked-within turns at next a before n place rest h is (g .1) (check before a) refl e
+  met-within turns at before n place rest h (stuck m there) is e =
+      subst (λ (k : ℕ). k ≤ end) (same-place {A = A} m there n place (sym (in-turn-broken check before m there) ∙ e)) (stuck-within at m there h is)
+
+  pub refused-within : (turns : ℕ) → Within turns
+  unfolding walkFrom if_then_else_
+  refused-within zero at before n place h e =
+      subst (λ (k : ℕ). k ≤ end) (same-place {A = A} number at n place (sym (in-turn-broken check before number at) ∙ e)) h
+  refused-within (suc turns) at before n place h e =
+      by-test (end ≤? at)
+      (λ past.
+        let over-there : walkFrom number end step (suc turns) at ≡ over = simp past in
+        let q = sym (in-turn-over check before) ∙ ap (inTurn check before) (sym over-there) ∙ e in
+        let z : _≡_ {A = ℕ} 0 1 = cc in
+        absurd (omega arith))
+      (λ here.
+        let turn : walkFrom number end step (suc turns) at ≡ onward (step at) (λ next. walkFrom number end step turns next) = simp here in
+        met-within turns at before n place (refused-within turns) h (step at) refl (ap (inTurn check before) (sym turn) ∙ e))
