@@ -67,8 +67,8 @@ pub answer-of-refused : {A : Type 0} (c : Checked A) (number place : ℕ) → c 
 unfolding checkAnswer
 answer-of-refused c number place e = rw e
 
-pub answer-of-fine : {A : Type 0} (c : Checked A) (a : A) → c ≡ fine a → check.Passed ≡ checkAnswer c
+pub answer-of-passed : (c : Checked (Unit {0})) → c ≡ passed → check.Passed ≡ checkAnswer c
 unfolding checkAnswer
-answer-of-fine c a e = rw e
+answer-of-passed c e = rw e
 
-pub ruleset answers = (answer-yes, answer-no, answer-of-refused, answer-of-fine)
+pub ruleset answers = (answer-yes, answer-no, answer-of-refused, answer-of-passed)
