@@ -10,7 +10,7 @@ use items::is_note;
 use items::is_shift;
 use model::Pitch;
 
-fn minus(up: u8, down: u8) -> i32
+pub fn minus(up: u8, down: u8) -> i32
     ensures { λ r. ⌜ r ≡ pos up -ℤ pos down ⌝ }
 {
     up as i32 - down as i32
