@@ -210,9 +210,9 @@ same-place : {A : Type 0} (m at n place : ℕ) → _≡_ {A = Checked (List A)} 
 same-place m at n place e = cc
 
 module _ {A : Type 0} (number end : ℕ) (step : ℕ → Step A) (check : List A → A → Checked (Unit {0}))
-         (goes : (at : ℕ) → at ≤ end → GoesOn end at (step at))
-         (stuck-within : (at n place : ℕ) → at ≤ end → step at ≡ stuck n place → place ≤ end)
-         (check-within : (at next n place : ℕ) (a : A) (before : List A) → at ≤ end → step at ≡ met a next → check before a ≡ refused n place → place ≤ end) where
+    (goes : (at : ℕ) → at ≤ end → GoesOn end at (step at))
+    (stuck-within : (at n place : ℕ) → at ≤ end → step at ≡ stuck n place → place ≤ end)
+    (check-within : (at next n place : ℕ) (a : A) (before : List A) → at ≤ end → step at ≡ met a next → check before a ≡ refused n place → place ≤ end) where
   abbrev Within : ℕ → Type 0
   Within turns = (at : ℕ) (before : List A) (n place : ℕ) → at ≤ end → inTurn check before (walkFrom number end step turns at) ≡ refused n place → place ≤ end
 
@@ -240,10 +240,10 @@ module _ {A : Type 0} (number end : ℕ) (step : ℕ → Step A) (check : List A
   refused-within (suc turns) at before n place h e =
       by-test (end ≤? at)
       (λ past.
-        let over-there : walkFrom number end step (suc turns) at ≡ over = simp past in
-        let q = sym (in-turn-over check before) ∙ ap (inTurn check before) (sym over-there) ∙ e in
-        let z : _≡_ {A = ℕ} 0 1 = cc in
-        absurd (omega arith))
+      let over-there : walkFrom number end step (suc turns) at ≡ over = simp past in
+      let q = sym (in-turn-over check before) ∙ ap (inTurn check before) (sym over-there) ∙ e in
+      let z : _≡_ {A = ℕ} 0 1 = cc in
+      absurd (omega arith))
       (λ here.
-        let turn : walkFrom number end step (suc turns) at ≡ onward (step at) (λ next. walkFrom number end step turns next) = simp here in
-        met-within turns at before n place (refused-within turns) h (step at) refl (ap (inTurn check before) (sym turn) ∙ e))
+      let turn : walkFrom number end step (suc turns) at ≡ onward (step at) (λ next. walkFrom number end step turns next) = simp here in
+      met-within turns at before n place (refused-within turns) h (step at) refl (ap (inTurn check before) (sym turn) ∙ e))

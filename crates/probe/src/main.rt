@@ -6,13 +6,14 @@ use model::Pitch;
 use text::flush;
 use text::put;
 use text::put_byte;
-use text::put_refusal;
 use text::put_pitch;
+use text::put_refusal;
 
 const LARGEST: u32 = 70000;
 
-// The numbers of a case's header.
+// The numbers of a case's header, of which so many bytes were there.
 struct Case {
+    bytes: usize,
     operation: u8,
     stated: u32,
     row: u32,
@@ -20,13 +21,16 @@ struct Case {
     size: u32,
 }
 
-fn read_case(header: &[u8; 17]) -> Case {
+fn next_case() -> Case {
+    let mut header = [0u8; 17];
+    let bytes = io::read_full(0, &mut header);
     Case {
+        bytes,
         operation: header[0],
-        stated: number_in(header, 1),
-        row: number_in(header, 5),
-        room: number_in(header, 9),
-        size: number_in(header, 13),
+        stated: number_in(&header, 1),
+        row: number_in(&header, 5),
+        room: number_in(&header, 9),
+        size: number_in(&header, 13),
     }
 }
 
@@ -51,8 +55,11 @@ fn answer_pitch(page: &mut [u8], used: usize, byte: u32, shift: u32) -> usize {
     }
 }
 
-// Whether the case is whole and of an operation that is answered.
+// Whether the case is of an operation that is answered, within bounds and whole; its buffer is read.
 fn is_good(case: Case, buffer: &mut [u8]) -> bool {
+    if case.bytes < 17 {
+        return false;
+    }
     if case.operation != b't' {
         return false;
     }
@@ -69,27 +76,33 @@ fn is_good(case: Case, buffer: &mut [u8]) -> bool {
     io::read_full(0, &mut buffer[..size]) == size
 }
 
+fn answer(page: &mut [u8], used: usize, case: Case) -> usize {
+    let used = answer_pitch(page, used, case.stated, case.row);
+    put(page, used, b"-- kept\n")
+}
+
+fn run(page: &mut [u8], buffer: &mut [u8]) {
+    let mut used: usize = 0;
+    let mut turns: u32 = 0;
+    while turns < 1_000_000_000 {
+        turns += 1;
+        let case = next_case();
+        if case.bytes == 0 {
+            flush(page, used);
+            return;
+        }
+        if !is_good(case, buffer) {
+            used = put(page, used, b"bad case\n");
+            flush(page, used);
+            return;
+        }
+        used = answer(page, used, case);
+    }
+    flush(page, used);
+}
+
 fn main() {
     let mut page = [0u8; 65536];
-    let mut used: usize = 0;
     let mut buffer = [0u8; 70000];
-    let mut header = [0u8; 17];
-    for _ in 0..1_000_000_000u32 {
-        let got = io::read_full(0, &mut header);
-        if got == 0 {
-            break;
-        }
-        let case = read_case(&header);
-        if got < 17 {
-            used = put(&mut page, used, b"bad case\n");
-            break;
-        }
-        if !is_good(case, &mut buffer) {
-            used = put(&mut page, used, b"bad case\n");
-            break;
-        }
-        used = answer_pitch(&mut page, used, case.stated, case.row);
-        used = put(&mut page, used, b"-- kept\n");
-    }
-    flush(&mut page, used);
+    run(&mut page, &mut buffer);
 }

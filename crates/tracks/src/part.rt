@@ -104,7 +104,10 @@ pub fn check_setup(s: &[u8], setup: FoundChunk) -> Check
     ensures { λ r. ⌜ r ≡ checkAnswer (setupHolds (now (s .entry)) (bareOf setup)) ⌝ }
 {
     match setup {
-        FoundChunk::At { place, size } => moved_by(place + 8, items::read_setup(body_of(s, place, size))),
+        FoundChunk::At { place, size } => moved_by(
+            place + 8,
+            items::read_setup(body_of(s, place, size)),
+        ),
         FoundChunk::Nowhere => Check::Passed,
     }
 }
