@@ -6,5 +6,9 @@ mod item;
 
 pub use duration::read_duration;
 pub use duration::read_gate;
+pub use event::has_kind;
+pub use event::is_note;
+pub use event::is_value;
+pub use event::is_wave;
 pub use event::read_event;
 pub use item::read_item;

@@ -1,0 +1,2 @@
+pub mod Durations
+pub mod Cases
