@@ -1,2 +1,9 @@
-pub mod Durations
+pub mod Below
 pub mod Cases
+pub mod Codes
+pub mod Contents
+pub mod Durations
+pub mod Events
+pub mod Items
+pub mod Numbers
+pub mod Stores

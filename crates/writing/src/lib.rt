@@ -1,8 +1,14 @@
 // The items of a sequence, written into lent memory. What does not fit the format or the room is refused before the first store, so a
 // refusal leaves the memory as it was. Reading gives back what was written: proofs/Back.antt and proofs/Forth.antt.
 mod duration;
+mod event;
 mod fits;
+mod item;
 
 pub use duration::duration_size;
 pub use duration::write_duration;
+pub use event::event_size;
+pub use event::write_event;
 pub use fits::event_fits;
+pub use item::item_size;
+pub use item::put_item;
