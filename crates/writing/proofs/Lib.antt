@@ -3,7 +3,11 @@ pub mod Cases
 pub mod Codes
 pub mod Contents
 pub mod Durations
+pub mod EventBack
 pub mod Events
 pub mod Items
+pub mod NoMark
 pub mod Numbers
+pub mod ReadBack
+pub mod Stands
 pub mod Stores
