@@ -4,6 +4,7 @@ use mathlib.Core.List.{List, [], _∷_}
 use mathlib.Core.Path.{_≡_, refl}
 use lib.ListN.{length, set, length-set}
 use lib.Seq.{sets}
+use native.Mathlib.Decide.{decLt}
 use native.Mathlib.Numerals.{towards-suc}
 use native.Mathlib.Omega.{arith}
 use borrow.Author.Tests.{le-ltb, lt-ltb}
@@ -23,6 +24,13 @@ size-one value h = rw one-byte
 
 pub size-two : (value : ℕ) → 128 ≤ value → 2 ≡ length (durationBytes value)
 size-two value h = rw two-bytes
+
+pub some-bytes : (value : ℕ) → 0 < length (durationBytes value)
+some-bytes value =
+    elim (decLt value 128) [
+      | yes q ↦ rw one-byte (omega arith)
+      | no q ↦ let h : 128 ≤ value = omega arith in rw (two-bytes value h) (omega arith)
+    ]
 
 module _ (l : List ℕ) (at value : ℕ) where
   pub room-one : value < 128 → at + length (durationBytes value) ≤ length l → at < length l

@@ -4,6 +4,7 @@ pub mod Codes
 pub mod Contents
 pub mod Durations
 pub mod EventBack
+pub mod EventStands
 pub mod Events
 pub mod Items
 pub mod NoMark
@@ -11,3 +12,4 @@ pub mod Numbers
 pub mod ReadBack
 pub mod Stands
 pub mod Stores
+pub mod WriteBack

@@ -40,6 +40,10 @@ module _ (s : List ℕ) where
       let p : at + suc k ≡ at + 1 + k = omega arith in
       ap (λ (n : ℕ). s ! n) p ∙ stands-byte (at + 1) bytes k (omega arith) (st .2)
 
+  pub stands-here : (at : ℕ) (bytes : List ℕ) → 0 < length bytes → Stands s at bytes → at < length s
+  stands-here at [] h st = absurd (omega arith)
+  stands-here at (byte ∷ bytes) h st = st .0
+
   pub stands-within : (at : ℕ) (bytes : List ℕ) → at ≤ length s → Stands s at bytes → at + length bytes ≤ length s
   stands-within at [] h st = omega arith
   stands-within at (byte ∷ bytes) h st = let k = st .0 in let r = stands-within (at + 1) bytes (omega arith) (st .2) in omega arith
