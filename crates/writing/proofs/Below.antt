@@ -1,7 +1,7 @@
 -- A test that is computed at each number below a bound, and what that says of any such number.
 use Prim.Native.Nat.{ℕ, zero, suc, _<_}
-use mathlib.Core.Bool.{Bool, true, false}
-use mathlib.Core.Path.{_≡_, ap, sym, _∙_}
+use mathlib.Core.Bool.{Bool, true}
+use mathlib.Core.Path.{_≡_, ap, _∙_}
 use native.Mathlib.Decide.{decLt}
 use native.Mathlib.Omega.{arith}
 use Rattle.model.specs.Words.{_and_}

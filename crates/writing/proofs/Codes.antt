@@ -2,7 +2,6 @@
 use Prim.Native.Nat.{ℕ, _<_, _≤_}
 use mathlib.Core.Bool.{Bool, true, false}
 use mathlib.Core.Path.{_≡_, refl}
-use native.Mathlib.Omega.{arith}
 use borrow.Author.Tests.{ltb-true, leb-true, eqb-true, le-ltb, ne-eqb}
 use Rattle.model.specs.Words.{_and_, _or_, _<?_, _≤?_, _≡?_}
 use Rattle.model.specs.Event.{longKind}

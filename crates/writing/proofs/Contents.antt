@@ -1,8 +1,8 @@
 -- The content of an event that can be written: its bytes by constructor, the room they want, and how many there are.
 use Prim.Native.Nat.{ℕ, _+_, _<_, _≤_}
-use mathlib.Core.Bool.{Bool, true, false}
+use mathlib.Core.Bool.{true}
 use mathlib.Core.List.{List, [], _∷_}
-use mathlib.Core.Path.{_≡_, refl, sym, _∙_, ap}
+use mathlib.Core.Path.{_≡_, refl, ap}
 use lib.ListN.{length, set, length-set}
 use lib.Seq.{sets}
 use native.Mathlib.Decide.{decLt}
@@ -11,7 +11,6 @@ use native.Mathlib.Omega.{arith}
 use borrow.Author.Tests.{le-ltb, lt-ltb}
 use Rattle.model.specs.Words.{if_then_else_}
 use Rattle.model.specs.Bytes.{part}
-use Rattle.model.specs.Duration.{durationBytes}
 use Rattle.model.specs.Content.{contentOf, controlBytes, contentBytes}
 use Rattle.model.specs.Writing.{eventFits}
 use Rattle.model.specs.declared.Voice.{Voice}

@@ -1,7 +1,7 @@
 -- A duration in memory, by its size: the room it wants, the place after it, and what its stores leave.
 use Prim.Native.Nat.{ℕ, _+_, _-_, _/_, _%_, _<_, _≤_}
 use mathlib.Core.List.{List, [], _∷_}
-use mathlib.Core.Path.{_≡_, refl}
+use mathlib.Core.Path.{_≡_}
 use lib.ListN.{length, set, length-set}
 use lib.Seq.{sets}
 use native.Mathlib.Decide.{decLt}

@@ -74,7 +74,7 @@ note-top : (low : ℕ) → isNote low ≡ true → low ≤ 12
 unfolding isNote
 note-top low h = leb-true low 12 (and-right (1 ≤? low) _ h)
 
-note-back : (s : List ℕ) (at channel key gate : ℕ) → IsNote Score channel key gate → Stands s at ((channel * 64 + key) ∷ durationBytes gate)
+note-back : (s : List ℕ) (at channel key gate : ℕ) → IsNote channel key gate → Stands s at ((channel * 64 + key) ∷ durationBytes gate)
     → eventAt Score s at ≡ event.Is (Note channel key gate) (at + length ((channel * 64 + key) ∷ durationBytes gate))
 unfolding eventAt soundAt isSound sound gated if_then_else_
 note-back s at channel key gate n st =
@@ -91,7 +91,7 @@ note-back s at channel key gate n st =
     let k : (channel * 64 + key) % 64 ≡ key = omega arith in
     simp (lt-leb, e, ne-eqb, ok, g, c, k) (ap (event.Is (Note channel key gate)) x)
 
-wave-back : (s : List ℕ) (at channel number gate : ℕ) → IsWave Pcm channel number gate → Stands s at ((channel * 64 + number) ∷ durationBytes gate)
+wave-back : (s : List ℕ) (at channel number gate : ℕ) → IsWave channel number gate → Stands s at ((channel * 64 + number) ∷ durationBytes gate)
     → eventAt Pcm s at ≡ event.Is (Wave channel number gate) (at + length ((channel * 64 + number) ∷ durationBytes gate))
 unfolding eventAt soundAt isSound isWave sound gated if_then_else_ _and_
 wave-back s at channel number gate n st =

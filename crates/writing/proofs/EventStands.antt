@@ -1,29 +1,28 @@
 -- What the readers of durations and events accept stands there as the bytes of what they give, and fits (half of demand 2, for
 -- WriteBack.antt). The list's elements are bytes.
-use Prim.Native.Nat.{ℕ, suc, _+_, _-_, _*_, _/_, _%_, _<_, _≤_}
-use mathlib.Core.Bool.{Bool, true, false, not}
-use mathlib.Core.List.{List, [], _∷_}
-use mathlib.Core.Path.{_≡_, refl, sym, _∙_, ap, subst}
-use lib.ListN.{length, getD, take, drop}
-use lib.Seq.{getD-take, getD-drop}
+use Prim.Native.Nat.{ℕ, _+_, _-_, _/_, _%_, _<_, _≤_}
+use mathlib.Core.Bool.{true, not}
+use mathlib.Core.List.{List}
+use mathlib.Core.Path.{_≡_, refl, sym, _∙_}
+use lib.ListN.{length}
 use native.Mathlib.Omega.{arith}
-use borrow.Author.Tests.{le-ltb, lt-ltb, le-leb, lt-leb, eq-eqb, ne-eqb, ltb-true, ltb-false, leb-true, leb-false, eqb-true, eqb-false, not-false}
+use borrow.Author.Tests.{le-ltb, le-leb, ltb-true, ltb-false, leb-false, eqb-true, eqb-false, not-false}
 use Rattle.model.specs.Words.{if_then_else_, _and_, _<?_, _≤?_, _≡?_}
-use Rattle.model.specs.Bytes.{_!_, part}
+use Rattle.model.specs.Bytes.{_!_}
 use Rattle.model.specs.Duration.{twoByteValue, durationAt, notZero, gateAt, durationBytes}
 use Rattle.model.specs.Event.{isNote, isWave, isSound, sound, gated, soundAt, longKind, shortKind, hasKind, isValue, longAt, shortAt, formed, controlAt, closedAt, exclusiveAt, systemAt, eventAt}
-use Rattle.model.specs.Content.{Content, Content.nop, Content.note, Content.wave, Content.control, Content.exclusive, contentOf, codeOf, controlBytes, contentBytes}
+use Rattle.model.specs.Content.{contentOf, codeOf, contentBytes}
 use Rattle.model.specs.Writing.{isGate, noteFits, waveFits, controlFits, contentFits}
 use Rattle.model.specs.declared.Voice.{Voice}
 use Rattle.model.specs.declared.Voice.the-variants.{Score, Pcm}
-use Rattle.model.specs.declared.Event.{Event}
-use Rattle.model.specs.declared.Event.the-variants.{Nop, Note, Wave, Control, Exclusive}
+use Rattle.model.specs.declared.Event.the-variants.{Nop, Control, Exclusive}
 use Rattle.model.specs.declared.ReadDuration.{ReadDuration}
 use Rattle.model.specs.declared.ReadDuration.the-variants as duration
 use Rattle.model.specs.declared.ReadEvent.{ReadEvent}
 use Rattle.model.specs.declared.ReadEvent.the-variants as event
-use Rattle.model.proofs.Tests.{and-left, and-right, if-all, both-true}
+use Rattle.model.proofs.Tests.{if-all}
 use Rattle.writing.proofs.Codes.{code-back, kind-from, kind-to}
+use Rattle.writing.proofs.ContentFits.{exclusive-fits}
 use Rattle.writing.proofs.Durations.{one-byte, two-bytes}
 use Rattle.writing.proofs.Events.{control-long, control-short}
 use Rattle.writing.proofs.Stands.{Stands, part-stands}
@@ -182,22 +181,17 @@ module _ (s : List ℕ) (bytes : (k : ℕ) → s ! k < 256) where
 
     closed-stands : (size : ℕ) → s ! (at + 1) ≡ 0xF0 → size ≡ s ! (at + 2) → 3 ≤ size → at + 2 + size < length s → s ! (at + 2 + size) ≡ 0xF7
         → EventStands voice s at (event.Is (Exclusive at size) (at + 2 + size + 1))
-    unfolding contentOf contentFits contentBytes _and_
+    unfolding contentOf contentBytes
     closed-stands size second is many there last =
         let v = bytes (at + 2) in
-        let few : size ≤ 255 = omega arith in
-        let sized = part-length s (at + 3) size (omega arith) in
-        let p : at + 3 + (size - 1) ≡ at + 2 + size = omega arith in
-        let below : size - 1 < size = omega arith in
-        let closed : part s (at + 3) size ! (size - 1) ≡ 0xF7 =
-        getD-take size (drop (at + 3) s) (size - 1) 0 below ∙ getD-drop (at + 3) s (size - 1) 0 ∙ ap (λ (n : ℕ). s ! n) p ∙ last in
+        let inside : at + 3 + size ≤ length s = omega arith in
+        let sized = part-length s (at + 3) size inside in
         let two : at + 1 + 1 ≡ at + 2 = omega arith in
         let three : at + 2 + 1 ≡ at + 3 = omega arith in
         let size-here : at + 2 < length s = omega arith in
-        let body = part-stands s (at + 3) size (omega arith) in
-        rw sized (
-          simp (le-leb, closed),
-          (here, first, (next-here, second, rw two (size-here, sym is, rw three body))),
+        let body = part-stands s (at + 3) size inside in (
+          exclusive-fits voice s at size many (omega arith) inside last,
+          rw sized (here, first, (next-here, second, rw two (size-here, sym is, rw three body))),
           omega arith,
         )
 

@@ -1,24 +1,21 @@
 -- An event in memory: the room that its parts want, the place after it, and what its stores leave, by kind of event.
-use Prim.Native.Nat.{ℕ, suc, _+_, _-_, _*_, _<_, _≤_}
-use mathlib.Core.Bool.{Bool, true, false}
-use mathlib.Core.List.{List, [], _∷_, _++_}
-use mathlib.Core.Path.{_≡_, refl, sym, _∙_, ap}
+use Prim.Native.Nat.{ℕ, _+_, _-_, _*_, _<_, _≤_}
+use mathlib.Core.List.{List, [], _∷_}
+use mathlib.Core.Path.{_≡_, _∙_}
 use lib.ListN.{length, set, length-set}
 use lib.Seq.{sets}
 use mir.Val.{Fits}
 use mir.Syntax.{w8}
 use native.Mathlib.Numerals.{towards-suc}
 use native.Mathlib.Omega.{arith}
-use borrow.Author.Tests.{le-ltb, lt-ltb, leb-true}
-use Rattle.model.specs.Words.{if_then_else_, _and_, _≤?_}
+use borrow.Author.Tests.{le-ltb, lt-ltb}
+use Rattle.model.specs.Words.{if_then_else_}
 use Rattle.model.specs.Bytes.{part}
 use Rattle.model.specs.Duration.{durationBytes}
-use Rattle.model.specs.Content.{contentOf, codeOf, controlBytes, contentBytes}
-use Rattle.model.specs.Writing.{eventFits}
-use Rattle.model.specs.declared.Voice.{Voice}
+use Rattle.model.specs.Content.{codeOf, controlBytes}
 use Rattle.model.specs.declared.Event.{Event}
 use Rattle.model.specs.declared.Event.the-variants.{Nop, Note, Wave, Control, Exclusive}
-use Rattle.writing.specs.Parts.{SoundFit, ControlFit, soundBytes, exclusiveBytes, eventSize}
+use Rattle.writing.specs.Parts.{ControlFit, soundBytes, exclusiveBytes, eventSize}
 use Rattle.writing.proofs.Stores.{part-length, kept-set}
 
 -- a note or a wave: its first byte, and its gate time after it

@@ -1,12 +1,12 @@
 -- An item in memory: a duration and an event after it, with room for both or for neither.
 use Prim.Native.Nat.{ℕ, _+_, _-_, _<_, _≤_}
 use mathlib.Core.Bool.{Bool, true, false, not}
-use mathlib.Core.List.{List, [], _∷_, _++_}
+use mathlib.Core.List.{List}
 use mathlib.Core.Path.{_≡_, refl, sym, _∙_, ap}
 use lib.ListN.{length, length-append}
 use lib.Seq.{sets}
 use native.Mathlib.Omega.{arith}
-use borrow.Author.Tests.{le-ltb, lt-ltb, le-leb, lt-leb}
+use borrow.Author.Tests.{le-ltb, le-leb, lt-leb}
 use Rattle.model.specs.Words.{if_then_else_}
 use Rattle.model.specs.Duration.{durationBytes}
 use Rattle.model.specs.Plain.{itemBytes}

@@ -1,12 +1,12 @@
 -- The numbers of an event that can be written, taken out of the test that they pass.
-use Prim.Native.Nat.{ℕ, _+_, _-_, _%_, _<_, _≤_}
-use mathlib.Core.Bool.{Bool, true, false}
+use Prim.Native.Nat.{ℕ, _+_, _%_, _<_, _≤_}
+use mathlib.Core.Bool.{true}
 use mathlib.Core.List.{List}
-use mathlib.Core.Path.{_≡_, refl, sym, _∙_, subst}
+use mathlib.Core.Path.{_≡_, sym, _∙_, subst}
 use lib.Dec.{T}
 use lib.ListN.{length}
 use borrow.Author.Tests.{leb-true, eqb-true, lt-ltb, le-ltb}
-use Rattle.model.specs.Words.{if_then_else_, _and_, _<?_, _≤?_, _≡?_}
+use Rattle.model.specs.Words.{_and_, _<?_, _≤?_}
 use Rattle.model.specs.Bytes.{_!_}
 use Rattle.model.specs.Event.{isNote, isWave, hasKind, isValue}
 use Rattle.model.specs.Writing.{isGate, noteFits, waveFits, controlFits, exclusiveFits}
@@ -18,15 +18,13 @@ pub record IsGate (gate : ℕ) : Type 0 where
   pub sounds : 1 ≤ gate
   pub short : gate ≤ 16511
 
-pub record IsNote (voice : Voice) (channel key gate : ℕ) : Type 0 where
-  pub score : voice ≡ Score
+pub record IsNote (channel key gate : ℕ) : Type 0 where
   pub few : channel ≤ 3
   pub small : key ≤ 63
   pub note : isNote (key % 16) ≡ true
   pub lasts : IsGate gate
 
-pub record IsWave (voice : Voice) (channel number gate : ℕ) : Type 0 where
-  pub pcm : voice ≡ Pcm
+pub record IsWave (channel number gate : ℕ) : Type 0 where
   pub few : channel ≤ 3
   pub from : 1 ≤ number
   pub to : number ≤ 62
@@ -45,17 +43,16 @@ pub record IsExclusive (s : List ℕ) (place size : ℕ) : Type 0 where
   pub inside : place + 3 + size ≤ length s
   pub closed : s ! (place + 2 + size) ≡ 0xF7
 
-pub is-gate : (gate : ℕ) → isGate gate ≡ true → IsGate gate
+is-gate : (gate : ℕ) → isGate gate ≡ true → IsGate gate
 unfolding isGate
 is-gate gate h = record { sounds = leb-true 1 gate (and-left _ _ h); short = leb-true gate 16511 (and-right _ _ h) }
 
-pub is-note : (voice : Voice) (channel key gate : ℕ) → noteFits voice channel key gate ≡ true → IsNote voice channel key gate
+pub is-note : (voice : Voice) (channel key gate : ℕ) → noteFits voice channel key gate ≡ true → IsNote channel key gate
 unfolding noteFits
 is-note Score channel key gate h =
     let k = and-right (channel ≤? 3) _ h in
     let n = and-right (key ≤? 63) _ k in
     record {
-      score = refl;
       few = leb-true channel 3 (and-left _ _ h);
       small = leb-true key 63 (and-left _ _ k);
       note = and-left _ _ n;
@@ -63,14 +60,13 @@ is-note Score channel key gate h =
     }
 is-note Pcm channel key gate h = absurd (subst T (sym h) tt)
 
-pub is-wave : (voice : Voice) (channel number gate : ℕ) → waveFits voice channel number gate ≡ true → IsWave voice channel number gate
+pub is-wave : (voice : Voice) (channel number gate : ℕ) → waveFits voice channel number gate ≡ true → IsWave channel number gate
 unfolding waveFits isWave
 is-wave Score channel number gate h = absurd (subst T (sym h) tt)
 is-wave Pcm channel number gate h =
     let n = and-right (channel ≤? 3) _ h in
     let w = and-left ((1 ≤? number) and (number ≤? 62)) _ n in
     record {
-      pcm = refl;
       few = leb-true channel 3 (and-left _ _ h);
       from = leb-true 1 number (and-left _ _ w);
       to = leb-true number 62 (and-right (1 ≤? number) _ w);

@@ -1,11 +1,10 @@
 -- Bytes stored one after the other, and a stretch copied: what is still to be stored makes the whole.
-use Prim.Native.Nat.{ℕ, zero, suc, _+_, _-_, _<_, _≤_}
+use Prim.Native.Nat.{ℕ, suc, _+_, _-_, _<_, _≤_}
 use mathlib.Core.List.{List, [], _∷_, _++_}
 use mathlib.Core.Path.{_≡_, refl, sym, _∙_, ap}
-use lib.ListN.{length, take, drop, set, getD, length-set, length-take, length-drop}
+use lib.ListN.{length, take, set, getD, length-set, length-take, length-drop}
 use lib.Seq.{sets, drop-cons}
 use native.Mathlib.Nat.{add-zero, sub-zero}
-use native.Mathlib.Numerals.{towards-suc}
 use native.Mathlib.Omega.{arith}
 use Rattle.model.specs.Bytes.{part}
 

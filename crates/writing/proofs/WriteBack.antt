@@ -2,12 +2,12 @@
 -- it can be written, and its bytes are those that stood there. The list's elements are bytes.
 use Prim.Native.Nat.{ℕ, _+_, _-_, _<_, _≤_}
 use mathlib.Core.Bool.{true}
-use mathlib.Core.List.{List, [], _∷_, _++_}
+use mathlib.Core.List.{List}
 use mathlib.Core.Path.{_≡_, refl, sym, _∙_, ap, subst}
 use lib.ListN.{length, length-append}
 use native.Mathlib.Omega.{arith}
 use borrow.Author.Tests.{le-leb, leb-true, eqb-true}
-use Rattle.model.specs.Words.{_and_, _≤?_, _≡?_}
+use Rattle.model.specs.Words.{_≤?_, _≡?_}
 use Rattle.model.specs.Bytes.{_!_, part}
 use Rattle.model.specs.Duration.{durationAt, durationBytes}
 use Rattle.model.specs.Event.{eventAt}

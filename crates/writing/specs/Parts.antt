@@ -1,6 +1,6 @@
 -- What the writers of an event ask of its numbers, the bytes of each kind of event, and how many bytes an event takes.
 use Prim.Native.Nat.{ℕ, _+_, _*_, _≤_, _<_}
-use mathlib.Core.List.{List, [], _∷_}
+use mathlib.Core.List.{List, _∷_}
 use lib.ListN.{length}
 use Rattle.model.specs.Words.{if_then_else_, _<?_}
 use Rattle.model.specs.Bytes.{part}
