@@ -81,8 +81,8 @@ module _ (voice : Voice) (s : List ℕ) (event : Event) where
     pub nop-room : event ≡ Nop → at + length (contentBytes (contentOf s event)) ≤ length l → at < length l
     nop-room p h = omega (arith, rw (nop-bytes p) at h)
 
-    pub nop-second : (b : ℕ) → event ≡ Nop → at + length (contentBytes (contentOf s event)) ≤ length l → at + 1 < length (set l at b)
-    nop-second b p h = simp length-set (omega (arith, rw (nop-bytes p) at h))
+    pub nop-second : (one : ℕ) → event ≡ Nop → at + length (contentBytes (contentOf s event)) ≤ length l → at + 1 < length (set l at one)
+    nop-second one p h = simp length-set (omega (arith, rw (nop-bytes p) at h))
 
     pub nop-next : event ≡ Nop → at + 2 ≡ at + length (contentBytes (contentOf s event))
     nop-next p = rw (nop-bytes p)

@@ -54,14 +54,14 @@ module _ (l : List ℕ) (at kind channel value : ℕ) where
   pub short-room : 11 ≤ kind → at + length (controlBytes kind channel value) ≤ length l → at < length l
   short-room h r = omega (arith, rw control-short at r)
 
-  module _ (b d : ℕ) where
-    pub long-second : kind < 11 → at + length (controlBytes kind channel value) ≤ length l → at + 1 < length (set l at b)
+  module _ (one two : ℕ) where
+    pub long-second : kind < 11 → at + length (controlBytes kind channel value) ≤ length l → at + 1 < length (set l at one)
     long-second h r = simp length-set (omega (arith, rw control-long at r))
 
-    pub short-second : 11 ≤ kind → at + length (controlBytes kind channel value) ≤ length l → at + 1 < length (set l at b)
+    pub short-second : 11 ≤ kind → at + length (controlBytes kind channel value) ≤ length l → at + 1 < length (set l at one)
     short-second h r = simp length-set (omega (arith, rw control-short at r))
 
-    pub long-third : kind < 11 → at + length (controlBytes kind channel value) ≤ length l → at + 2 < length (set (set l at b) (at + 1) d)
+    pub long-third : kind < 11 → at + length (controlBytes kind channel value) ≤ length l → at + 2 < length (set (set l at one) (at + 1) two)
     long-third h r = simp length-set (omega (arith, rw control-long at r))
 
   pub long-next : kind < 11 → at + 3 ≡ at + length (controlBytes kind channel value)
@@ -91,14 +91,14 @@ module _ (l s : List ℕ) (at place size : ℕ) (inside : place + 3 + size ≤ l
   pub head-room : at + length (exclusiveBytes s place size) ≤ length l → at < length l
   head-room h = omega (arith, exclusive-length)
 
-  pub head-second : (b : ℕ) → at + length (exclusiveBytes s place size) ≤ length l → at + 1 < length (set l at b)
-  head-second b h = simp length-set (omega (arith, exclusive-length))
+  pub head-second : (one : ℕ) → at + length (exclusiveBytes s place size) ≤ length l → at + 1 < length (set l at one)
+  head-second one h = simp length-set (omega (arith, exclusive-length))
 
-  pub head-third : (b d : ℕ) → at + length (exclusiveBytes s place size) ≤ length l → at + 2 < length (set (set l at b) (at + 1) d)
-  head-third b d h = simp length-set (omega (arith, exclusive-length))
+  pub head-third : (one two : ℕ) → at + length (exclusiveBytes s place size) ≤ length l → at + 2 < length (set (set l at one) (at + 1) two)
+  head-third one two h = simp length-set (omega (arith, exclusive-length))
 
-  pub copy-room : (b d e : ℕ) → at + length (exclusiveBytes s place size) ≤ length l → at + 3 + size ≤ length (set (set (set l at b) (at + 1) d) (at + 2) e)
-  copy-room b d e h = simp length-set (omega (arith, exclusive-length))
+  pub copy-room : (one two three : ℕ) → at + length (exclusiveBytes s place size) ≤ length l → at + 3 + size ≤ length (set (set (set l at one) (at + 1) two) (at + 2) three)
+  copy-room one two three h = simp length-set (omega (arith, exclusive-length))
 
   pub exclusive-next : (r : ℕ) → r ≡ at + 3 + size → r ≡ at + length (exclusiveBytes s place size)
   exclusive-next r h = omega (arith, exclusive-length)
