@@ -18,7 +18,7 @@ use Rattle.model.specs.declared.Put.{Put}
 use Rattle.model.specs.declared.Put.the-variants.{Done, Full, Unfit}
 use Rattle.model.proofs.Tests.{flag-on, flag-off}
 use Rattle.writing.specs.Parts.{eventSize}
-use Rattle.writing.proofs.Stores.{sets-append, kept-kept}
+use Rattle.writing.proofs.Stores.{sets-append}
 use Rattle.writing.proofs.Contents.{event-length}
 
 timed-length : (s : List ℕ) (duration : ℕ) (event : Event)
@@ -47,7 +47,7 @@ module _ (s : List ℕ) (duration : ℕ) (event : Event) (at middle : ℕ) (betw
       h ∙ ap (λ (x : List ℕ). sets x middle bytes) q ∙ ap (λ (n : ℕ). sets (sets l at (durationBytes duration)) n bytes) between
       ∙ sets-append l at (durationBytes duration) bytes
 
-pub ruleset parts = (first-room, second-room, item-next, item-wrote, kept-kept)
+pub ruleset parts = (first-room, second-room, item-next, item-wrote)
 
 -- memory by the answer
 module _ (l : List ℕ) (at : ℕ) (bytes : List ℕ) (answer : Put) where

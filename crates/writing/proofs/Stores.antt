@@ -14,12 +14,9 @@ sets-append l at (byte ∷ first) second =
     let p : at + suc (length first) ≡ suc at + length first = omega arith in
     ap (λ (n : ℕ). sets (sets (set l at byte) (suc at) first) n second) p ∙ sets-append (set l at byte) (suc at) first second
 
--- a callee kept the length of what a store or another callee had left
+-- a callee kept the length of what a store had left
 pub kept-set : (m l : List ℕ) (at byte : ℕ) → length m ≡ length (set l at byte) → length m ≡ length l
 kept-set m l at byte h = h ∙ length-set l at byte
-
-pub kept-kept : (l k m : List ℕ) → length m ≡ length k → length k ≡ length l → length m ≡ length l
-kept-kept l k m p q = p ∙ q
 
 pub part-length : (s : List ℕ) (place size : ℕ) → place + size ≤ length s → length (part s place size) ≡ size
 part-length s place size h = simp (length-take, length-drop) (omega arith)
