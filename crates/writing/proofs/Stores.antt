@@ -47,7 +47,4 @@ module _ (l s out : List ℕ) (at from count i : ℕ) (copied : Copied l s out a
   pub done : count ≤ i → out ≡ sets l at (part s from count)
   done h = let e : 0 ≡ count - i = omega (arith, copied .in-range) in ap (λ (x : ℕ). sets out (at + i) (part s (from + i) x)) e ∙ copied .rest
 
-  pub kept : length out ≡ length l
-  kept = copied .same
-
-pub ruleset copies = (start, more, done, kept)
+pub ruleset copies = (start, more, done)
