@@ -1,0 +1,17 @@
+pub mod Below
+pub mod Cases
+pub mod Codes
+pub mod ContentFits
+pub mod Contents
+pub mod Durations
+pub mod EventBack
+pub mod EventStands
+pub mod Events
+pub mod Items
+pub mod NoMark
+pub mod Numbers
+pub mod PutBack
+pub mod ReadBack
+pub mod Stands
+pub mod Stores
+pub mod WriteBack

@@ -1,0 +1,50 @@
+-- Bytes stored one after the other, and a stretch copied: what is still to be stored makes the whole.
+use Prim.Native.Nat.{ℕ, suc, _+_, _-_, _<_, _≤_}
+use mathlib.Core.List.{List, [], _∷_, _++_}
+use mathlib.Core.Path.{_≡_, refl, sym, _∙_, ap}
+use lib.ListN.{length, take, set, getD, length-set, length-take, length-drop}
+use lib.Seq.{sets, drop-cons}
+use native.Mathlib.Nat.{add-zero, sub-zero}
+use native.Mathlib.Omega.{arith}
+use Rattle.model.specs.Bytes.{part}
+
+pub sets-append : (l : List ℕ) (at : ℕ) (first second : List ℕ) → sets (sets l at first) (at + length first) second ≡ sets l at (first ++ second)
+sets-append l at [] second = ap (λ (n : ℕ). sets l n second) (add-zero at)
+sets-append l at (byte ∷ first) second =
+    let p : at + suc (length first) ≡ suc at + length first = omega arith in
+    ap (λ (n : ℕ). sets (sets (set l at byte) (suc at) first) n second) p ∙ sets-append (set l at byte) (suc at) first second
+
+-- a callee kept the length of what a store had left
+pub kept-set : (m l : List ℕ) (at byte : ℕ) → length m ≡ length (set l at byte) → length m ≡ length l
+kept-set m l at byte h = h ∙ length-set l at byte
+
+pub part-length : (s : List ℕ) (place size : ℕ) → place + size ≤ length s → length (part s place size) ≡ size
+part-length s place size h = simp (length-take, length-drop) (omega arith)
+
+pub part-cons : (s : List ℕ) (place size : ℕ) → place < length s → part s place (suc size) ≡ getD s place 0 ∷ part s (suc place) size
+part-cons s place size h = ap (take (suc size)) (drop-cons s place 0 h)
+
+pub record Copied (l s out : List ℕ) (at from count i : ℕ) : Type 0 where
+  pub in-range : i ≤ count
+  pub same : length out ≡ length l
+  pub rest : sets out (at + i) (part s (from + i) (count - i)) ≡ sets l at (part s from count)
+
+pub start : (l s : List ℕ) (at from count : ℕ) → Copied l s l at from count 0
+start l s at from count = record { in-range = omega arith; same = refl; rest = simp (add-zero, sub-zero) }
+
+module _ (l s out : List ℕ) (at from count i : ℕ) (copied : Copied l s out at from count i) where
+  pub more : i < count → from + count ≤ length s → Copied l s (set out (at + i) (getD s (from + i) 0)) at from count (i + 1)
+  more h k =
+      let left : count - i ≡ suc (count - (i + 1)) = omega arith in
+      let there : at + (i + 1) ≡ suc (at + i) = omega arith in
+      let here : from + (i + 1) ≡ suc (from + i) = omega arith in
+      record {
+        in-range = omega arith;
+        same = length-set out (at + i) _ ∙ copied .same;
+        rest = rw (there, here) (sym (ap (sets out (at + i)) (ap (part s (from + i)) left ∙ part-cons s (from + i) (count - (i + 1)) (omega arith))) ∙ copied .rest);
+      }
+
+  pub done : count ≤ i → out ≡ sets l at (part s from count)
+  done h = let e : 0 ≡ count - i = omega (arith, copied .in-range) in ap (λ (x : ℕ). sets out (at + i) (part s (from + i) x)) e ∙ copied .rest
+
+pub ruleset copies = (start, more, done)

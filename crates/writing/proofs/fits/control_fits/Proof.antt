@@ -1,0 +1,54 @@
+-- `control_fits` is the definition, test by test.
+use Rattle.model.proofs.Tests.{tests, junctions}
+use Rattle.model.specs.Writing.{controlFits}
+use borrow.Author.Needs.{needs}
+use Rattle.writing.proofs.fits.control_fits.Statement.{statement}
+use Rattle.writing.proofs.fits.control_fits.Tie as tie
+
+returns : tie.Need-returns
+unfolding controlFits
+returns c = search (tests, junctions) depth 12 fits 20000
+
+returns-2 : tie.Need-returns-2
+unfolding controlFits
+returns-2 c = search (tests, junctions) depth 12 fits 20000
+
+returns-3 : tie.Need-returns-3
+unfolding controlFits
+returns-3 c = search (tests, junctions) depth 12 fits 20000
+
+has-kind-requires : tie.Need-has-kind-requires
+has-kind-requires c κs = search needs
+
+returns-4 : tie.Need-returns-4
+unfolding controlFits
+returns-4 c = search (tests, junctions) depth 12 fits 20000
+
+is-value-requires : tie.Need-is-value-requires
+is-value-requires c κs = search needs
+
+returns-5 : tie.Need-returns-5
+unfolding controlFits
+returns-5 c = search (tests, junctions) depth 12 fits 20000
+
+returns-6 : tie.Need-returns-6
+unfolding controlFits
+returns-6 c = search (tests, junctions) depth 12 fits 20000
+
+returns-7 : tie.Need-returns-7
+unfolding controlFits
+returns-7 c = search (tests, junctions) depth 12 fits 20000
+
+pub control-fits-spec : {M : Type 1} → statement M
+control-fits-spec =
+    tie.close
+    (tie.spec
+    returns
+    returns-2
+    returns-3
+    has-kind-requires
+    returns-4
+    is-value-requires
+    returns-5
+    returns-6
+    returns-7)

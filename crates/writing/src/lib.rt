@@ -1,0 +1,15 @@
+// The items of a sequence, written into lent memory. What does not fit the format or the room is refused before the first store, so a
+// refusal leaves the memory as it was. Reading gives back what was written, and writing what was read: proofs/PutBack.antt,
+// proofs/ReadBack.antt and proofs/WriteBack.antt.
+mod duration;
+mod event;
+mod fits;
+mod item;
+
+pub use duration::duration_size;
+pub use duration::write_duration;
+pub use event::event_size;
+pub use event::write_event;
+pub use fits::event_fits;
+pub use item::item_size;
+pub use item::put_item;
