@@ -1,3 +1,4 @@
 pub mod Examples
 pub mod Tests
 pub mod Walks
+pub mod Answers

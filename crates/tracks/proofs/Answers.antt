@@ -1,29 +1,16 @@
--- Answers of checks: what they say of the check, and places that are counted from elsewhere.
+-- Answers whose places are counted from elsewhere.
 use Prim.Native.Nat.{ℕ, _+_, _≤_}
-use mathlib.Core.Path.{_≡_, refl, sym, _∙_, ap, subst}
-use mathlib.Core.Bool.{Bool, true, false}
-use mathlib.Core.List.{List}
-use lib.ListN.{length}
+use mathlib.Core.Path.{_≡_, refl, sym, subst}
 use native.Mathlib.Omega.{arith}
 use mir.Val.{Fits}
 use mir.Syntax.{w64}
-use Rattle.model.specs.Words.{if_then_else_, Checked, Checked.fine, Checked.refused, passed, _>>_, countedFrom}
-use Rattle.model.specs.Item.{isFine, checkAnswer}
+use Rattle.model.specs.Words.{Checked, Checked.fine, Checked.refused, passed, _>>_, countedFrom}
+use Rattle.model.specs.Item.{checkAnswer}
 use Rattle.model.specs.declared.Check.{Check}
 use Rattle.model.specs.declared.Check.the-variants as check
 use Rattle.tracks.specs.Stages.{Near, moved}
 
 module _ {A : Type 0} where
-  pub answer-refused : (c : Checked A) (number place : ℕ) → checkAnswer c ≡ check.Refused number place → c ≡ refused number place
-  unfolding checkAnswer
-  answer-refused (fine a) number place e = let z : _≡_ {A = ℕ} 0 1 = cc in absurd (omega arith)
-  answer-refused (refused n p) number place e = cc
-
-  pub answer-passed : (c : Checked A) → checkAnswer c ≡ check.Passed → isFine c ≡ true
-  unfolding checkAnswer isFine
-  answer-passed (fine a) e = refl
-  answer-passed (refused n p) e = let z : _≡_ {A = ℕ} 0 1 = cc in absurd (omega arith)
-
   pub answer-moved : (base : ℕ) (c : Checked A) → checkAnswer (countedFrom base c) ≡ moved base (checkAnswer c)
   unfolding checkAnswer countedFrom moved
   answer-moved base (fine a) = refl
@@ -52,23 +39,3 @@ moved-refused base r z number place p h = rw p h
 -- a sum of two places fits
 pub near-fits : (base : ℕ) (r : Check) (number place : ℕ) → base ≤ 65536 → Near r → r ≡ check.Refused number place → Fits w64 (base + place)
 near-fits base r number place h n e = let m : place ≤ 65536 = subst Near e n in record { fits = omega arith }
-
--- the answer of a check that is a row of tests
-
-pub answer-yes : {A : Type 0} (b : Bool) (x y : Checked A) (z : Check) → b ≡ true → z ≡ checkAnswer x → z ≡ checkAnswer (if b then x else y)
-unfolding if_then_else_
-answer-yes b x y z h e = rw h e
-
-pub answer-no : {A : Type 0} (b : Bool) (x y : Checked A) (z : Check) → b ≡ false → z ≡ checkAnswer y → z ≡ checkAnswer (if b then x else y)
-unfolding if_then_else_
-answer-no b x y z h e = rw h e
-
-pub answer-of-refused : {A : Type 0} (c : Checked A) (number place : ℕ) → c ≡ refused number place → check.Refused number place ≡ checkAnswer c
-unfolding checkAnswer
-answer-of-refused c number place e = rw e
-
-pub answer-of-passed : (c : Checked (Unit {0})) → c ≡ passed → check.Passed ≡ checkAnswer c
-unfolding checkAnswer
-answer-of-passed c e = rw e
-
-pub ruleset answers = (answer-yes, answer-no, answer-of-refused, answer-of-passed)

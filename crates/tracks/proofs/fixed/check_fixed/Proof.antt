@@ -1,6 +1,6 @@
 use Rattle.model.proofs.Tests.{tests}
 use Rattle.model.proofs.Tests.{not-on, not-off}
-use Rattle.tracks.proofs.Answers.{answers}
+use Rattle.model.proofs.Answers.{answers}
 use Rattle.model.specs.Track.{fixedHolds}
 use borrow.Author.Needs.{needs}
 use Rattle.tracks.proofs.fixed.check_fixed.Statement.{statement}
