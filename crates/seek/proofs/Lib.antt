@@ -1,2 +1,4 @@
 pub mod Letters
 pub mod Data
+pub mod Ahead
+pub mod Cases

@@ -11,7 +11,7 @@ add-if1 c = search needs
 
 returns : tie.Need-returns
 unfolding phraseAt
-returns c = search (tests, phrase-is) depth 9 fits 20000
+returns c = search tests
 
 number-4-requires : tie.Need-number-4-requires
 number-4-requires c κs = search needs
