@@ -10,7 +10,7 @@ use Rattle.model.specs.Seek.{entryAt}
 use Rattle.model.specs.declared.ReadEntry.{ReadEntry}
 use Rattle.model.specs.declared.ReadEntry.the-variants.{Refused}
 use Rattle.model.proofs.Tests.{if-yes, if-no}
-use Rattle.seek.specs.Next.{isRefused, endOf, movedTo, pastComma, nextAt}
+use Rattle.seek.specs.Next.{isRefused, endOf, movedTo, pastComma, nextAt, rankOf, slotOf}
 
 -- a case that is told
 
@@ -39,3 +39,9 @@ module _ (width : ℕ) (s : List ℕ) (at : ℕ) (entry : ReadEntry) (end : ℕ)
   next-other h g = rw (← is, ← ends) (if-no _ _ _ _ (lt-leb (length s) end h) (if-no _ _ _ _ (ne-eqb (s ! end) 0x2C g) refl))
 
 pub ruleset nexts = (next-last, next-comma, next-other)
+
+pub rank-told : (entry told : ReadEntry) (z : ℕ) → entry ≡ told → z ≡ rankOf told → z ≡ rankOf entry
+rank-told entry told z e h = rw e h
+
+pub slot-told : (entry told : ReadEntry) (z : ℕ) → entry ≡ told → z ≡ slotOf told → z ≡ slotOf entry
+slot-told entry told z e h = rw e h

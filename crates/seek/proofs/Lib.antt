@@ -2,3 +2,4 @@ pub mod Letters
 pub mod Data
 pub mod Ahead
 pub mod Cases
+pub mod Ordering

@@ -1,7 +1,9 @@
 // The seek body of a track: its entries read one by one, their form, the points and phrases they name, and the rules that those keep.
 // Each function answers what the definition of its name in model/specs says.
 mod entry;
+mod form;
 mod next;
 
 pub use entry::is_letter;
 pub use entry::read_entry;
+pub use form::check_form;
