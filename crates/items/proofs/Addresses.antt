@@ -56,7 +56,7 @@ pub record Seeking (voice : Voice) (s : List ℕ) (address at time : ℕ) : Type
   pub there : isThere rest (length s) address ≡ isAddress (itemsOf voice s) (length s) address
   pub times : time + timeIn rest address ≡ timeOf (itemsOf voice s) address
 
-fine-found : {A : Type 0} (c : Checked (List A)) → isFine c ≡ true → c ≡ fine (found c)
+pub fine-found : {A : Type 0} (c : Checked (List A)) → isFine c ≡ true → c ≡ fine (found c)
 unfolding isFine found
 fine-found (fine all) h = refl
 fine-found (refused number place) h = absurd (false≢true h)

@@ -6,6 +6,7 @@ mod event;
 mod item;
 mod standard;
 
+pub use body::find_address;
 pub use body::read_body;
 pub use body::read_setup;
 pub use duration::read_duration;

@@ -10,6 +10,9 @@ use Rattle.model.specs.Seek.{entryAt}
 use Rattle.model.specs.declared.ReadEntry.{ReadEntry}
 use Rattle.model.specs.declared.ReadEntry.the-variants.{Refused}
 use Rattle.model.proofs.Tests.{if-yes, if-no}
+use Rattle.model.specs.declared.FoundPhrase.{FoundPhrase}
+use Rattle.model.specs.declared.Points.{Points}
+use Rattle.seek.specs.Said.{noted, phraseNamed}
 use Rattle.seek.specs.Next.{isRefused, endOf, movedTo, pastComma, nextAt, rankOf, slotOf}
 
 -- a case that is told
@@ -45,3 +48,9 @@ rank-told entry told z e h = rw e h
 
 pub slot-told : (entry told : ReadEntry) (z : ℕ) → entry ≡ told → z ≡ slotOf told → z ≡ slotOf entry
 slot-told entry told z e h = rw e h
+
+pub noted-told : (points : Points) (at : ℕ) (entry told : ReadEntry) (z : Points) → entry ≡ told → z ≡ noted points at told → z ≡ noted points at entry
+noted-told points at entry told z e h = rw e h
+
+pub named-told : (letter : ℕ) (entry told : ReadEntry) (z : FoundPhrase) → entry ≡ told → z ≡ phraseNamed letter told → z ≡ phraseNamed letter entry
+named-told letter entry told z e h = rw e h

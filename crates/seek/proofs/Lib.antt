@@ -3,3 +3,5 @@ pub mod Data
 pub mod Ahead
 pub mod Cases
 pub mod Ordering
+pub mod Standing
+pub mod Saying

@@ -113,7 +113,7 @@ module _ (before : List (Placed Entry)) (entry : Placed Entry) where
   unfolding inOrder if_then_else_
   in-order-passes h g = simp (h, g)
 
-  in-order-twice : tagged before (entry .what) ≡ true → inOrder before entry ≡ refused 12 (entry .place)
+  pub in-order-twice : tagged before (entry .what) ≡ true → inOrder before entry ≡ refused 12 (entry .place)
   unfolding inOrder if_then_else_
   in-order-twice h = simp h
 

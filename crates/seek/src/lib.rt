@@ -3,7 +3,10 @@
 mod entry;
 mod form;
 mod next;
+mod said;
 
 pub use entry::is_letter;
 pub use entry::read_entry;
 pub use form::check_form;
+pub use said::find_phrase;
+pub use said::read_points;
