@@ -5,3 +5,5 @@ pub mod Cases
 pub mod Ordering
 pub mod Standing
 pub mod Saying
+pub mod Holding
+pub mod Naming

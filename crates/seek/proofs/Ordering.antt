@@ -147,7 +147,7 @@ module _ (before : List (Placed Entry)) (seen : List Bool) (highest : ℕ) (r : 
   remember : highest ≤ rank (entry .what) → Remembered (entry ∷ before) (set seen (slot (entry .what)) true) (rank (entry .what))
   remember up = record { tags = remember-tag; ranks = remember-rank up }
 
-none-flagged : (many n : ℕ) → getD (replicate many false) n false ≡ false
+pub none-flagged : (many n : ℕ) → getD (replicate many false) n false ≡ false
 none-flagged zero n = refl
 none-flagged (suc many) zero = refl
 none-flagged (suc many) (suc n) = none-flagged many n

@@ -113,7 +113,7 @@ said-ends : (points : Points) → saidOver points [] ≡ points
 unfolding saidOver over startPoint stopPoint orderList orderPlace firstSaid flagOr lettersOr _otherwise_
 said-ends points = refl
 
-part-length : (s : List ℕ) (place size : ℕ) → place + size ≤ length s → length (part s place size) ≡ size
+pub part-length : (s : List ℕ) (place size : ℕ) → place + size ≤ length s → length (part s place size) ≡ size
 part-length s place size h = simp (length-take, length-drop) (omega arith)
 
 -- an entry adds what it says, since no later one says it again

@@ -107,7 +107,7 @@ abbrev pub Without : ℕ → List (Placed Entry) → Type 0
 Without t [] = Unit
 Without t (entry ∷ entries) = (tag (entry .what) ≡ t → ⊥) × Without t entries
 
-later : (a b : Bool) → b ≡ true → (a or b) ≡ true
+pub later : (a b : Bool) → b ≡ true → (a or b) ≡ true
 unfolding _or_
 later true b h = refl
 later false b h = h
@@ -182,3 +182,22 @@ module _ (P : Entries → Type 0) (phrases : Bool) (s : List ℕ) (at : ℕ) (w 
             standing = subst (λ (n : ℕ). Standing phrases s n (placed s at entry ∷ w .before) (t .more)) (sym ends) (t .stand);
             holds = f (t .more) meets (subst P (t .splits) (w .holds));
           }
+
+-- what holds of no entries, and of one entry more wherever it holds of those after it, holds of them all
+pub walk-all : (P : Entries → Type 0) (phrases : Bool) (s : List ℕ) → P []
+    → ((at : ℕ) (entry : ReadEntry) (more : Entries) → Met s at entry more → P more → P (placed s at entry ∷ more))
+    → isFine (seekOf (pointWidth phrases) s) ≡ true → P (allEntries phrases s)
+walk-all P phrases s none-left one-more h = go (allEntries phrases s) 0 [] (standing-starts phrases s h)
+  where
+    go : (rest : Entries) (at : ℕ) (before : Entries) → Standing phrases s at before rest → P rest
+    go [] at before st = none-left
+    go (first ∷ rest) at before st =
+        let entry = nextAt (pointWidth phrases) s at in
+        let t = turned phrases s at before entry refl first rest st (isRefused entry) refl in
+        let same : first ≡ placed s at entry = cc (t .splits) in
+        let left : t .more ≡ rest = cc (t .splits) in
+        let last = subst (Without (tag (entryOf s at entry))) left (no-more phrases s (endOf entry) (placed s at entry) before (t .more) (t .stand)) in
+        let on = subst (GoesOn (length s) at) (st .stands .1) (entry-goes (pointWidth phrases) s at) in
+        let after : Standing phrases s (st .stands .0) (first ∷ before) rest = record { stands = st .stands .2; passes = st .passes .1; within = on .1 } in
+        subst (λ (e : Placed Entry). P (e ∷ rest)) (sym same)
+        (one-more at entry rest (record { whole = t .whole; ahead = t .ahead; last = last }) (go rest (st .stands .0) (first ∷ before) after))

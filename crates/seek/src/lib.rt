@@ -3,10 +3,13 @@
 mod entry;
 mod form;
 mod next;
+mod order;
+mod points;
 mod said;
 
 pub use entry::is_letter;
 pub use entry::read_entry;
 pub use form::check_form;
+pub use points::check_points;
 pub use said::find_phrase;
 pub use said::read_points;
