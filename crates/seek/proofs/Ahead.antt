@@ -2,8 +2,8 @@
 use Prim.Native.Nat.{ℕ, _+_, _<_, _≤_}
 use mathlib.Core.List.{List, []}
 use mathlib.Core.Bool.{Bool, true, false}
-use mathlib.Core.Path.{_≡_, refl, sym, _∙_, subst}
-use lib.ListN.{length, drop}
+use mathlib.Core.Path.{_≡_, refl, _∙_, subst}
+use lib.ListN.{length}
 use native.Mathlib.Omega.{arith}
 use borrow.Author.Tests.{ltb-false, leb-false}
 use Rattle.model.specs.Words.{if_then_else_, _≤?_, _≡?_, Placed, Step, Step.met, Step.stuck}
@@ -11,7 +11,7 @@ use Rattle.model.specs.Bytes.{_!_, part}
 use Rattle.model.specs.Seek.{Entry, Entry.start, Entry.stop, Entry.phrase, Entry.order, isLetter, dataAt, phraseAt, entryAt, followed, entryMet, entryStep}
 use Rattle.model.specs.declared.ReadEntry.{ReadEntry}
 use Rattle.model.specs.declared.ReadEntry.the-variants.{Start, Stop, Phrase, Order, Refused}
-use Rattle.model.proofs.Tests.{if-all, if-false, and-right}
+use Rattle.model.proofs.Tests.{if-all, and-right}
 use Rattle.model.proofs.Walks.{GoesOn}
 use Rattle.seek.specs.Next.{isRefused, endOf, movedTo, pastComma, nextAt}
 use Rattle.seek.proofs.Letters.{letters-reach}

@@ -6,8 +6,8 @@ use mathlib.Core.Bool.{Bool, true, false, not}
 use mathlib.Core.Path.{_≡_, refl, sym, _∙_, ap, ap₂}
 use lib.ListN.{length}
 use native.Mathlib.Omega.{arith}
-use borrow.Author.Tests.{lt-ltb, le-ltb}
-use Rattle.model.specs.Words.{if_then_else_, _<?_, _otherwise_, _>>_, Placed, Checked, Checked.fine, Checked.refused, passed, allPass}
+use borrow.Author.Tests.{le-leb, lt-leb, ltb-true, ltb-false}
+use Rattle.model.specs.Words.{if_then_else_, _<?_, _≤?_, _otherwise_, _>>_, Placed, Checked, Checked.fine, Checked.refused, passed, allPass}
 use Rattle.model.specs.Item.{Item, isFine, checkAnswer}
 use Rattle.model.specs.Seek.{Entry, seekOf, startPoint, orderList, pointsSaid}
 use Rattle.model.specs.Points.{isAddress, addressAnswer, pointHolds, pointsHold, isPosition, orderHolds}
@@ -44,11 +44,9 @@ module _ (items : Items) (size address : ℕ) (a : Address) (is : a ≡ addressA
       by-test (isAddress items size address)
       (λ h. let q = sym e ∙ is ∙ if-true _ _ _ h in let z : _≡_ {A = ℕ} 0 1 = cc in absurd (omega arith)) (λ h. sym h)
 
-pub over-it : (a b : ℕ) → a < b → false ≡ not (a <? b)
-over-it a b h = simp lt-ltb
-
-pub up-to-it : (a b : ℕ) → b ≤ a → true ≡ not (a <? b)
-up-to-it a b h = simp le-ltb
+pub not-over : (a b : ℕ) → (b ≤? a) ≡ not (a <? b)
+not-over a b =
+    by-test (a <? b) (λ h. let k = ltb-true a b h in rw h (lt-leb b a k)) (λ h. let k = ltb-false a b h in rw h (le-leb b a k))
 
 module _ (phrases : Bool) (items : Items) (size letters value : ℕ) (z : Bool) where
   pub point-position : phrases ≡ true → z ≡ not (letters <? value) → z ≡ isPoint phrases items size letters value
@@ -59,7 +57,7 @@ module _ (phrases : Bool) (items : Items) (size letters value : ℕ) (z : Bool) 
   unfolding isPoint
   point-address p h = rw p h
 
-pub ruleset numbered = (address-there, address-nowhere, over-it, up-to-it, point-position, point-address)
+pub ruleset numbered = (address-there, address-nowhere, not-over, point-position, point-address)
 
 -- ENTRIES
 

@@ -19,7 +19,6 @@ use Rattle.model.specs.Seek.{Entry, Entry.start, Entry.stop, Entry.phrase, Entr
 use Rattle.model.specs.Points.{lettersNamed, lettersHold, orderHolds}
 use Rattle.model.specs.Track.{pointWidth}
 use Rattle.model.specs.declared.Points.{Points}
-use Rattle.model.specs.declared.Check.{Check}
 use Rattle.model.specs.declared.Check.the-variants as check
 use Rattle.model.specs.declared.ReadEntry.{ReadEntry}
 use Rattle.model.specs.declared.ReadEntry.the-variants.{Start, Stop, Phrase, Order, Refused}
@@ -170,7 +169,6 @@ module _ (phrases : Bool) (s : List ℕ) (fine-form : isFine (seekOf (pointWidth
 
 -- THE WALK over the letters: those from a place up to the list's end are left
 pub record Lettering (phrases : Bool) (s : List ℕ) (end at : ℕ) : Type 0 where
-  pub short : at ≤ end
   pub within : end ≤ length s
   pub same : checkAnswer (lettersNamed (allEntries phrases s) at (part s at (end - at))) ≡ checkAnswer (orderHolds (allEntries phrases s))
 
@@ -184,7 +182,6 @@ lettering-starts phrases s points h said =
     let q = letters-said phrases s h points said in
     let many : points .order + points .letters - points .order ≡ points .letters = omega arith in
     record {
-      short = omega arith;
       within = order-within phrases s h points said;
       same =
           ap (λ (n : ℕ). checkAnswer (lettersNamed all (points .order) (part s (points .order) n))) many
@@ -219,7 +216,6 @@ module _ (phrases : Bool) (s : List ℕ) (end at : ℕ) (r : Lettering phrases s
     pub lettering-turns : getD flags (s ! at) false ≡ true → Lettering phrases s end (at + 1)
     lettering-turns h =
         record {
-          short = omega arith;
           within = r .within;
           same = ap checkAnswer (sym (if-true _ _ _ (sym (n .flagged (s ! at) small) ∙ h))) ∙ splits;
         }

@@ -8,7 +8,7 @@ use lib.ListN.{length, getD, set, length-set, replicate, length-replicate}
 use lib.Seq.{getD-set-same, getD-set-other}
 use native.Mathlib.Omega.{arith}
 use borrow.Author.Tests.{eq-eqb, ne-eqb, eqb-true, eqb-false, lt-ltb, le-ltb, ltb-false}
-use Rattle.model.specs.Words.{if_then_else_, _or_, _<?_, _≡?_, any, Placed, Checked, Checked.fine, Checked.refused, passed, Step, Step.met, Step.stuck, walkTo, inTurn}
+use Rattle.model.specs.Words.{if_then_else_, _or_, _<?_, _≡?_, any, Placed, Checked, Checked.fine, Checked.refused, passed, Step.met, walkTo, inTurn}
 use Rattle.model.specs.Item.{checkAnswer}
 use Rattle.model.specs.Seek.{Entry, Entry.start, Entry.stop, Entry.phrase, Entry.order, isLetter, tag, rank, inOrder, entryStep, seekOf}
 use Rattle.model.specs.Track.{pointWidth}
@@ -18,6 +18,7 @@ use Rattle.model.specs.declared.Check.{Check}
 use Rattle.model.specs.declared.Check.the-variants as check
 use Rattle.model.proofs.Tests.{by-test, if-true, if-false, is-on, is-off}
 use Rattle.model.proofs.Walks.{GoesOn, withFirst, Left, left-starts, left-ends, left-stuck, left-refused, left-next}
+use Rattle.items.proofs.Setup.{answer-first}
 use Rattle.seek.specs.Next.{isRefused, endOf, nextAt, rankOf, slotOf}
 use Rattle.seek.proofs.Letters.{letter-least, letter-most}
 use Rattle.seek.proofs.Ahead.{EntryAhead, next-ahead, entryOf, placed, stepOf, next-steps, entry-goes}
@@ -161,11 +162,6 @@ pub record Forming (phrases : Bool) (s : List ℕ) (seen : List Bool) (highest a
   pub long : length seen ≡ 256
   pub remembered : Remembered before seen highest
   pub same : checkAnswer left ≡ checkAnswer (seekOf (pointWidth phrases) s)
-
-answer-first : (entry : Placed Entry) (found : Checked (List (Placed Entry))) → checkAnswer (withFirst entry found) ≡ checkAnswer found
-unfolding checkAnswer withFirst
-answer-first entry (fine all) = refl
-answer-first entry (refused number place) = refl
 
 pub form-empty : (phrases : Bool) (s : List ℕ) (z : Check) → length s ≡ 0 → z ≡ check.Refused 12 0 → z ≡ checkAnswer (seekOf (pointWidth phrases) s)
 unfolding seekOf if_then_else_ checkAnswer

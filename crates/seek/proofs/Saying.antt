@@ -4,7 +4,7 @@ use Prim.Native.Nat.{ℕ, _+_, _-_, _<_, _≤_}
 use mathlib.Core.List.{List, [], _∷_}
 use mathlib.Core.Bool.{Bool, true, false, false≢true}
 use mathlib.Core.Option.{Option, none, some}
-use mathlib.Core.Path.{_≡_, refl, sym, _∙_, ap, subst}
+use mathlib.Core.Path.{_≡_, refl, sym, _∙_, ap}
 use lib.ListN.{length, length-take, length-drop}
 use native.Mathlib.Omega.{arith}
 use Rattle.model.specs.Words.{if_then_else_, _≡?_, isSome, _otherwise_, _orElse_, firstSaid, Placed}
@@ -20,7 +20,7 @@ use Rattle.model.specs.declared.ReadEntry.the-variants.{Start, Stop, Phrase, Or
 use Rattle.model.proofs.Tests.{by-test}
 use Rattle.seek.specs.Next.{isRefused, endOf, nextAt}
 use Rattle.seek.specs.Said.{nothing, noted, phraseNamed}
-use Rattle.seek.proofs.Ahead.{EntryAhead, entryOf, placed}
+use Rattle.seek.proofs.Ahead.{entryOf, placed}
 use Rattle.seek.proofs.Standing.{Entries, allEntries, Without, silent, Walking, walk-starts, Met, walk-ends, walk-meets, walk-nears, walk-turns}
 
 -- WHO SAYS WHAT

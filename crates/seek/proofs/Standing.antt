@@ -1,16 +1,16 @@
 -- The entries of a seek body of good form stand in it one after the other, each in order after those before it, and no tag comes twice.
 -- This is what every walk over them goes by.
-use Prim.Native.Nat.{ℕ, _+_, _-_, _<_, _≤_}
+use Prim.Native.Nat.{ℕ, _-_, _<_, _≤_}
 use mathlib.Core.List.{List, [], _∷_}
-use mathlib.Core.Bool.{Bool, true, false, false≢true}
+use mathlib.Core.Bool.{Bool, true, false}
 use mathlib.Core.Option.{Option, none}
 use mathlib.Core.Path.{_≡_, refl, sym, _∙_, ap, subst}
 use lib.ListN.{length}
 use native.Mathlib.Omega.{arith}
 use borrow.Author.Tests.{eq-eqb}
-use Rattle.model.specs.Words.{if_then_else_, _or_, _<?_, _≡?_, any, _orElse_, firstSaid, Placed, Checked, Checked.fine, Checked.refused, passed, Step, Step.met, Step.stuck, walkTo, inTurn}
+use Rattle.model.specs.Words.{_or_, _≡?_, any, _orElse_, firstSaid, Placed, Checked.fine, Checked.refused, walkTo, inTurn}
 use Rattle.model.specs.Item.{isFine, found}
-use Rattle.model.specs.Seek.{Entry, tag, rank, inOrder, entryStep, seekOf}
+use Rattle.model.specs.Seek.{Entry, tag, inOrder, entryStep, seekOf}
 use Rattle.model.specs.Track.{pointWidth}
 use Rattle.model.specs.declared.ReadEntry.{ReadEntry}
 use Rattle.model.proofs.Tests.{by-test, if-true, if-false, first-true}

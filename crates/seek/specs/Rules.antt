@@ -5,10 +5,11 @@ use mathlib.Core.Bool.{Bool, true, false, not}
 use mathlib.Core.Path.{_≡_}
 use lib.ListN.{length, getD, set}
 use Rattle.model.specs.Words.{_and_, _<?_, isSome, _otherwise_, Placed, Checked}
-use Rattle.model.specs.Item.{Item}
+use Rattle.model.specs.Item.{Item, itemsOf}
 use Rattle.model.specs.Seek.{Entry, phraseOf, orderList}
 use Rattle.model.specs.Points.{isAddress, isSpan, pointsHold}
 use Rattle.model.specs.declared.Event.{Event}
+use Rattle.model.specs.declared.Voice.{Voice}
 use Rattle.model.specs.declared.ReadEntry.{ReadEntry}
 use Rattle.model.specs.declared.ReadEntry.the-variants.{Start, Stop, Phrase, Order, Refused}
 
@@ -17,6 +18,14 @@ unfoldable pub isPoint : Bool → List (Placed (Item Event)) → ℕ → ℕ →
 isPoint true items size letters value = not (letters <? value)
 isPoint false items size letters value = isAddress items size value
 
+-- the same of a body
+abbrev pub addressIn : Voice → List ℕ → ℕ → Bool
+addressIn voice body = isAddress (itemsOf voice body) (length body)
+
+abbrev pub pointIn : Voice → Bool → List ℕ → ℕ → ℕ → Bool
+pointIn voice phrases body letters = isPoint phrases (itemsOf voice body) (length body) letters
+
+-- an entry against the rules, as a reader has it
 unfoldable pub entryHolds : (ℕ → Bool) → (ℕ → Bool) → ℕ → ReadEntry → Bool
 entryHolds address point started (Start value next) = point value
 entryHolds address point started (Stop value next) = point value and not (value <? started)

@@ -1,6 +1,6 @@
 -- What one entry says, as a reader's answer has it: how it adds to the points said before it, and the phrase that it names.
 use Prim.Native.Nat.{ℕ, _+_}
-use mathlib.Core.Bool.{Bool, true, false}
+use mathlib.Core.Bool.{true, false}
 use Rattle.model.specs.Words.{if_then_else_, _≡?_}
 use Rattle.model.specs.declared.Points.{Points}
 use Rattle.model.specs.declared.FoundPhrase.{FoundPhrase}

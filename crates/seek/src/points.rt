@@ -5,10 +5,10 @@ ghost use Prim.Native.Nat.{_≤_};
 ghost use lib.ListN.{length};
 ghost use Rattle.model.specs.Words.{_and_, _<?_};
 ghost use Rattle.model.specs.Item.{bodyOf, checkAnswer, found, isFine, itemsOf};
-ghost use Rattle.model.specs.Points.{isAddress, isSpan};
+ghost use Rattle.model.specs.Points.{isSpan};
 ghost use Rattle.model.specs.Seek.{seekOf};
 ghost use Rattle.model.specs.Track.{pointWidth, pointsOf};
-ghost use Rattle.seek.specs.Rules.{entriesHold, entryHolds, isPoint};
+ghost use Rattle.seek.specs.Rules.{addressIn, entriesHold, entryHolds, pointIn};
 use super::next::end_of;
 use super::next::read_next;
 use super::order::check_letters;
@@ -23,7 +23,7 @@ use model::Voice;
 fn is_address(voice: Voice, body: &[u8], address: u32) -> bool
     requires { ⌜ length (now body) ≤ 65536 ⌝ }
     requires { ⌜ isFine (bodyOf voice (now body)) ≡ true ⌝ }
-    ensures { λ r. ⌜ r ≡ isAddress (itemsOf voice (now (body .entry))) (length (now (body .entry))) address ⌝ }
+    ensures { λ r. ⌜ r ≡ addressIn voice (now (body .entry)) address ⌝ }
 {
     match find_address(voice, body, address as usize) {
         Address::At { time: _ } => true,
@@ -34,7 +34,7 @@ fn is_address(voice: Voice, body: &[u8], address: u32) -> bool
 fn is_span(voice: Voice, body: &[u8], start: u32, stop: u32) -> bool
     requires { ⌜ length (now body) ≤ 65536 ⌝ }
     requires { ⌜ isFine (bodyOf voice (now body)) ≡ true ⌝ }
-    ensures { λ r. ⌜ r ≡ isSpan (isAddress (itemsOf voice (now (body .entry))) (length (now (body .entry)))) start stop ⌝ }
+    ensures { λ r. ⌜ r ≡ isSpan (addressIn voice (now (body .entry))) start stop ⌝ }
 {
     if !is_address(voice, body, start) {
         return false;
@@ -42,23 +42,17 @@ fn is_span(voice: Voice, body: &[u8], start: u32, stop: u32) -> bool
     if !is_address(voice, body, stop) {
         return false;
     }
-    if stop < start {
-        return false;
-    }
-    true
+    start <= stop
 }
 
 // Whether a value is a point: an address, or with phrases a position in a list of so many letters.
 fn is_point(voice: Voice, phrases: bool, body: &[u8], letters: usize, value: u32) -> bool
     requires { ⌜ length (now body) ≤ 65536 ⌝ }
     requires { ⌜ isFine (bodyOf voice (now body)) ≡ true ⌝ }
-    ensures { λ r. ⌜ r ≡ isPoint phrases (itemsOf voice (now (body .entry))) (length (now (body .entry))) letters value ⌝ }
+    ensures { λ r. ⌜ r ≡ pointIn voice phrases (now (body .entry)) letters value ⌝ }
 {
     if phrases {
-        if letters < value as usize {
-            return false;
-        }
-        return true;
+        return value as usize <= letters;
     }
     is_address(voice, body, value)
 }
@@ -67,22 +61,19 @@ fn is_point(voice: Voice, phrases: bool, body: &[u8], letters: usize, value: u32
 fn is_stop(voice: Voice, phrases: bool, body: &[u8], points: Points, value: u32) -> bool
     requires { ⌜ length (now body) ≤ 65536 ⌝ }
     requires { ⌜ isFine (bodyOf voice (now body)) ≡ true ⌝ }
-    ensures { λ r. ⌜ r ≡ (isPoint phrases (itemsOf voice (now (body .entry))) (length (now (body .entry))) (points .letters) value and not (value <? points .start)) ⌝ }
+    ensures { λ r. ⌜ r ≡ (pointIn voice phrases (now (body .entry)) (points .letters) value and not (value <? points .start)) ⌝ }
 {
     if !is_point(voice, phrases, body, points.letters, value) {
         return false;
     }
-    if value < points.start {
-        return false;
-    }
-    true
+    points.start <= value
 }
 
 // Whether an entry keeps the rules, beside what all entries say.
 fn entry_holds(voice: Voice, phrases: bool, body: &[u8], points: Points, entry: ReadEntry) -> bool
     requires { ⌜ length (now body) ≤ 65536 ⌝ }
     requires { ⌜ isFine (bodyOf voice (now body)) ≡ true ⌝ }
-    ensures { λ r. ⌜ r ≡ entryHolds (isAddress (itemsOf voice (now (body .entry))) (length (now (body .entry)))) (isPoint phrases (itemsOf voice (now (body .entry))) (length (now (body .entry))) (points .letters)) (points .start) entry ⌝ }
+    ensures { λ r. ⌜ r ≡ entryHolds (addressIn voice (now (body .entry))) (pointIn voice phrases (now (body .entry)) (points .letters)) (points .start) entry ⌝ }
 {
     match entry {
         ReadEntry::Start { value, next: _ } => is_point(

@@ -24,11 +24,6 @@ returns-3 : tie.Need-returns-3
 unfolding isSpan
 returns-3 c = search (tests, junctions, numbered) depth 9 fits 20000
 
-returns-4 : tie.Need-returns-4
-unfolding isSpan
-returns-4 c = search (tests, junctions, numbered) depth 9 fits 20000
-
 pub is-span-spec : {M : Type 1} → statement M
 is-span-spec =
-    tie.close
-    (tie.spec is-address-requires returns is-address-requires-2 returns-2 returns-3 returns-4)
+    tie.close (tie.spec is-address-requires returns is-address-requires-2 returns-2 returns-3)

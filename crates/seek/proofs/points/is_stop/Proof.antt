@@ -14,8 +14,5 @@ returns c = search (tests, junctions, numbered) depth 9 fits 20000
 returns-2 : tie.Need-returns-2
 returns-2 c = search (tests, junctions, numbered) depth 9 fits 20000
 
-returns-3 : tie.Need-returns-3
-returns-3 c = search (tests, junctions, numbered) depth 9 fits 20000
-
 pub is-stop-spec : {M : Type 1} → statement M
-is-stop-spec = tie.close (tie.spec is-point-requires returns returns-2 returns-3)
+is-stop-spec = tie.close (tie.spec is-point-requires returns returns-2)
