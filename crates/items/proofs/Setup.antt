@@ -19,10 +19,10 @@ use Rattle.items.proofs.Ahead.{EventAhead, setup-message-ahead}
 abbrev free : List Event → Event → Checked (Unit {0})
 free before message = passed
 
-answer-first : (message : Event) (found : Checked (List Event)) → checkAnswer (withFirst message found) ≡ checkAnswer found
+pub answer-first : {A : Type 0} (first : A) (found : Checked (List A)) → checkAnswer (withFirst first found) ≡ checkAnswer found
 unfolding checkAnswer withFirst
-answer-first message (fine all) = refl
-answer-first message (refused number place) = refl
+answer-first first (fine all) = refl
+answer-first first (refused number place) = refl
 
 pub record SettingUp (s : List ℕ) (at : ℕ) : Type 0 where
   pub before : List Event

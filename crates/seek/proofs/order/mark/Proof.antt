@@ -1,0 +1,64 @@
+-- `mark` flags a phrase's letter.
+use Rattle.seek.specs.Rules.{marked}
+use Rattle.seek.proofs.Naming.{marked-told}
+use borrow.Author.Needs.{needs}
+use Rattle.seek.proofs.order.mark.Statement.{statement}
+use Rattle.seek.proofs.order.mark.Tie as tie
+
+enum-told : tie.Need-enum-told
+enum-told c = search needs
+
+enum-told-2 : tie.Need-enum-told-2
+enum-told-2 c = search needs
+
+enum-known-entry : tie.Need-enum-known-entry
+enum-known-entry c = search needs
+
+cast-flags : tie.Need-cast-flags
+cast-flags c = search needs
+
+element-write-flags : tie.Need-element-write-flags
+element-write-flags c = search needs
+
+enum-told-3 : tie.Need-enum-told-3
+enum-told-3 c = search needs
+
+enum-told-4 : tie.Need-enum-told-4
+enum-told-4 c = search needs
+
+returns : tie.Need-returns
+unfolding marked
+returns c = search marked-told
+
+returns-2 : tie.Need-returns-2
+unfolding marked
+returns-2 c = search marked-told
+
+returns-3 : tie.Need-returns-3
+unfolding marked
+returns-3 c = search marked-told
+
+returns-4 : tie.Need-returns-4
+unfolding marked
+returns-4 c = search marked-told
+
+returns-5 : tie.Need-returns-5
+unfolding marked
+returns-5 c = search marked-told
+
+pub mark-spec : {M : Type 1} → statement M
+mark-spec =
+    tie.close
+    (tie.spec
+    enum-told
+    enum-told-2
+    enum-known-entry
+    cast-flags
+    element-write-flags
+    enum-told-3
+    enum-told-4
+    returns
+    returns-2
+    returns-3
+    returns-4
+    returns-5)

@@ -1,0 +1,62 @@
+-- `phrase_in` is the phrase that an entry names.
+use Rattle.model.proofs.Tests.{tests}
+use Rattle.seek.specs.Said.{phraseNamed}
+use Rattle.seek.proofs.Cases.{named-told}
+use borrow.Author.Needs.{needs}
+use Rattle.seek.proofs.said.phrase_in.Statement.{statement}
+use Rattle.seek.proofs.said.phrase_in.Tie as tie
+
+enum-told : tie.Need-enum-told
+enum-told c = search needs
+
+enum-told-2 : tie.Need-enum-told-2
+enum-told-2 c = search needs
+
+enum-known-entry : tie.Need-enum-known-entry
+enum-known-entry c = search needs
+
+enum-told-3 : tie.Need-enum-told-3
+enum-told-3 c = search needs
+
+enum-told-4 : tie.Need-enum-told-4
+enum-told-4 c = search needs
+
+returns : tie.Need-returns
+unfolding phraseNamed
+returns c = search (tests, named-told)
+
+returns-2 : tie.Need-returns-2
+unfolding phraseNamed
+returns-2 c = search (tests, named-told)
+
+returns-3 : tie.Need-returns-3
+unfolding phraseNamed
+returns-3 c = search (tests, named-told)
+
+returns-4 : tie.Need-returns-4
+unfolding phraseNamed
+returns-4 c = search (tests, named-told)
+
+returns-5 : tie.Need-returns-5
+unfolding phraseNamed
+returns-5 c = search (tests, named-told)
+
+returns-6 : tie.Need-returns-6
+unfolding phraseNamed
+returns-6 c = search (tests, named-told)
+
+pub phrase-in-spec : {M : Type 1} → statement M
+phrase-in-spec =
+    tie.close
+    (tie.spec
+    enum-told
+    enum-told-2
+    enum-known-entry
+    enum-told-3
+    enum-told-4
+    returns
+    returns-2
+    returns-3
+    returns-4
+    returns-5
+    returns-6)
