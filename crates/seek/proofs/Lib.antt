@@ -7,3 +7,4 @@ pub mod Standing
 pub mod Saying
 pub mod Holding
 pub mod Naming
+pub mod Within

@@ -40,7 +40,7 @@ in-turn width s entries e =
     (λ h. let q = sym (if-true _ _ _ h) ∙ e in let z : _≡_ {A = ℕ} 0 1 = cc in absurd (omega arith))
     (λ h. sym (if-false _ _ _ h) ∙ e)
 
-standing-starts : (phrases : Bool) (s : List ℕ) → isFine (seekOf (pointWidth phrases) s) ≡ true → Standing phrases s 0 [] (allEntries phrases s)
+pub standing-starts : (phrases : Bool) (s : List ℕ) → isFine (seekOf (pointWidth phrases) s) ≡ true → Standing phrases s 0 [] (allEntries phrases s)
 standing-starts phrases s h =
     let entries = allEntries phrases s in
     let e = in-turn (pointWidth phrases) s entries (fine-found (seekOf (pointWidth phrases) s) h) in

@@ -22,7 +22,7 @@ module _ {A : Type 0} where
   answer-done (refused n p) = refl
 
   -- an answer is near where the check refuses within a bound
-  pub answer-near : (c : Checked A) (r : Check) (bound : ℕ) → r ≡ checkAnswer c → bound ≤ 65536
+  pub answer-near : (c : Checked A) (r : Check) (bound : ℕ) → r ≡ checkAnswer c → bound ≤ 200000
       → ((number place : ℕ) → c ≡ refused number place → place ≤ bound) → Near r
   unfolding checkAnswer
   answer-near (fine a) r bound e h within = subst Near (sym e) tt
@@ -38,4 +38,4 @@ moved-refused base r z number place p h = rw p h
 
 -- a sum of two places fits
 pub near-fits : (base : ℕ) (r : Check) (number place : ℕ) → base ≤ 65536 → Near r → r ≡ check.Refused number place → Fits w64 (base + place)
-near-fits base r number place h n e = let m : place ≤ 65536 = subst Near e n in record { fits = omega arith }
+near-fits base r number place h n e = let m : place ≤ 200000 = subst Near e n in record { fits = omega arith }

@@ -103,22 +103,22 @@ cut-out s place size = let e : place + 8 + size - (place + 8) ≡ size = omega a
 
 -- a setup chunk
 
-part-length : (s : List ℕ) (place size : ℕ) → place + size ≤ length s → length (part s place size) ≤ size
+pub part-length : (s : List ℕ) (place size : ℕ) → place + size ≤ length s → length (part s place size) ≤ size
 part-length s place size h = simp length-take (omega arith)
 
 module _ (s : List ℕ) (setup : FoundChunk) (place size : ℕ) (is : setup ≡ At place size) where
-  pub setup-inside : Inside s setup → place + 8 + size ≤ length s
-  setup-inside h = subst (Inside s) is h
+  pub chunk-inside : Inside s setup → place + 8 + size ≤ length s
+  chunk-inside h = subst (Inside s) is h
 
-  pub setup-low : Inside s setup → length s ≤ 65536 → place + 8 ≤ 65536
-  setup-low h small = let room = setup-inside h in omega arith
+  pub chunk-low : Inside s setup → length s ≤ 65536 → place + 8 ≤ 65536
+  chunk-low h small = let room = chunk-inside h in omega arith
 
-  pub setup-fits : Inside s setup → length s ≤ 65536 → Fits w64 (place + 8)
-  setup-fits h small = let low = setup-low h small in record { fits = omega arith }
+  pub chunk-fits : Inside s setup → length s ≤ 65536 → Fits w64 (place + 8)
+  chunk-fits h small = let low = chunk-low h small in record { fits = omega arith }
 
   pub setup-near : (body : List ℕ) (r : Check) → body ≡ part s (place + 8) size → r ≡ checkAnswer (setupOf body) → Inside s setup → length s ≤ 65536 → Near r
   setup-near body r b e inside small =
-      let room = setup-inside inside in
+      let room = chunk-inside inside in
       let short = part-length s (place + 8) size room in
       answer-near (setupOf body) r (length body) e (omega (arith, ap length b)) (setup-refused-within body)
 
@@ -135,4 +135,6 @@ pub setup-none : (s : List ℕ) (setup : FoundChunk) (z : Check) → setup ≡ N
 unfolding setupHolds checkAnswer
 setup-none s setup z p h = h ∙ ap (λ (f : FoundChunk). checkAnswer (setupHolds s (bareOf f))) (sym p)
 
-pub ruleset setups = (setup-inside, setup-low, setup-fits, setup-near, setup-checked, setup-none)
+pub ruleset insides = (chunk-inside, chunk-low, chunk-fits)
+
+pub ruleset setups = (setup-near, setup-checked, setup-none)

@@ -30,10 +30,10 @@ abbrev pub Inside : List ℕ → FoundChunk → Type 0
 Inside s (At place size) = place + 8 + size ≤ length s
 Inside s Nowhere = Unit
 
--- a refusal whose place is within a file
+-- a refusal whose place is within a file, or not far past it
 abbrev pub Near : Check → Type 0
 Near check.Passed = Unit
-Near (check.Refused number place) = place ≤ 65536
+Near (check.Refused number place) = place ≤ 200000
 
 -- a refusal whose place was counted from a body's head
 unfoldable pub moved : ℕ → Check → Check

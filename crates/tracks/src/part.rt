@@ -4,12 +4,10 @@ ghost use mathlib.Core.Bool.{true};
 ghost use Prim.Native.Nat.{_+_, _≤_};
 ghost use lib.ListN.{length};
 ghost use Rattle.model.specs.Bytes.{part};
-ghost use Rattle.model.specs.Item.{isFine, found, bodyOf, bodyAnswer, setupOf, checkAnswer};
-ghost use Rattle.model.specs.Chunk.{foundChunk, bodyBytes};
-ghost use Rattle.model.specs.Track.{partId, partNamed, hasWaves, setupHolds};
+ghost use Rattle.model.specs.Item.{isFine, found};
+ghost use Rattle.model.specs.Chunk.{foundChunk};
+ghost use Rattle.model.specs.Track.{partId, partNamed, hasWaves};
 ghost use Rattle.chunks.specs.Kept.{chunksIn};
-ghost use Rattle.tracks.specs.Stages.{bare, bareOf, Inside, Near, moved};
-use model::Check;
 use model::FoundChunk;
 use model::Part;
 use model::Voice;
@@ -79,35 +77,5 @@ pub fn has_waves(voice: Voice, s: &[u8], start: usize, end: usize) -> bool
     match voice {
         Voice::Score => true,
         Voice::Pcm => chunks::has_chunk(s, start, end, Wanted::Wave),
-    }
-}
-
-// A refusal whose place was counted from a body's head.
-pub fn moved_by(base: usize, check: Check) -> Check
-    requires { ⌜ base ≤ 65536 ⌝ }
-    requires { ⌜ Near check ⌝ }
-    ensures { λ r. ⌜ r ≡ moved base check ⌝ }
-{
-    match check {
-        Check::Passed => Check::Passed,
-        Check::Refused { number, place } => Check::Refused {
-            number,
-            place: base + place,
-        },
-    }
-}
-
-// The check of a setup chunk, where there is one.
-pub fn check_setup(s: &[u8], setup: FoundChunk) -> Check
-    requires { ⌜ Inside (now s) setup ⌝ }
-    requires { ⌜ length (now s) ≤ 65536 ⌝ }
-    ensures { λ r. ⌜ r ≡ checkAnswer (setupHolds (now (s .entry)) (bareOf setup)) ⌝ }
-{
-    match setup {
-        FoundChunk::At { place, size } => moved_by(
-            place + 8,
-            items::read_setup(body_of(s, place, size)),
-        ),
-        FoundChunk::Nowhere => Check::Passed,
     }
 }
