@@ -71,9 +71,9 @@ form-refused-within width s n place e = go (length s ≡? 0) e
         refused-within 12 (length s) (entryStep width s) inOrder (λ at h. entry-goes width s at)
         (λ at m there h is. let a = subst (AtPlace s at) is (entry-at width s at) in omega arith)
         (λ at next m there entry before h is bad.
-          let a = subst (AtPlace s at) is (entry-at width s at) in
-          let b = subst (RefusedAt (entry .place)) bad (order-at before entry) in
-          omega arith)
+        let a = subst (AtPlace s at) is (entry-at width s at) in
+        let b = subst (RefusedAt (entry .place)) bad (order-at before entry) in
+        omega arith)
         (suc (length s)) 0 [] n place (omega arith) q
 
 -- 13 and 14
@@ -88,7 +88,7 @@ then-refused {A} (refused m there) rest n place X e f g =
     f (ap₂ refused same here)
 
 module _ (width : ℕ) (s : List ℕ) (test : Placed Entry → Checked (Unit {0})) (n place bound : ℕ)
-         (within : (entry : Placed Entry) → entry .place ≤ length s → LettersIn s (entry .what) → test entry ≡ refused n place → place ≤ bound) where
+    (within : (entry : Placed Entry) → entry .place ≤ length s → LettersIn s (entry .what) → test entry ≡ refused n place → place ≤ bound) where
   all-within : (entries : List (Placed Entry)) (at : ℕ) → at ≤ length s → Stand (length s) (entryStep width s) at entries
       → allPass test entries ≡ refused n place → place ≤ bound
   unfolding allPass

@@ -7,12 +7,13 @@ use mathlib.Core.Option.{Option, none, some}
 use lib.ListN.{length}
 use Rattle.model.specs.Words.{if_then_else_, _≡?_, Placed, Checked, Checked.fine, Checked.refused, passed, _>>=_, _>>_, countedFrom}
 use Rattle.model.specs.Bytes.{_!_}
-use Rattle.model.specs.Chunk.{Chunk, bodyPlace, bodyBytes}
+use Rattle.model.specs.Chunk.{Chunk, bodyPlace, placeAfter, bodyBytes, chunkList}
 use Rattle.model.specs.Item.{Item, bodyOf}
-use Rattle.model.specs.Track.{Track, partId, partNamed, required, hasWaves, setupHolds, entriesOf, placeOfD, placeOfG}
+use Rattle.model.specs.Track.{Track, fixedSize, isAllowed, partId, partNamed, required, hasWaves, setupHolds, entriesOf, placeOfD, placeOfG}
 use Rattle.model.specs.declared.Voice.{Voice}
 use Rattle.model.specs.declared.Check.{Check}
 use Rattle.model.specs.declared.Check.the-variants as check
+use Rattle.model.specs.declared.ListOf.the-variants as list
 use Rattle.model.specs.declared.Part.the-variants as part
 use Rattle.model.specs.declared.FoundChunk.{FoundChunk}
 use Rattle.model.specs.declared.FoundChunk.the-variants.{At, Nowhere}
@@ -65,3 +66,8 @@ afterParts s voice chunk parts = do
   if hasWaves voice parts then passed else refused 9 (chunk .place)
   setupHolds s (partNamed (partId part.Setup voice) parts)
   afterSetup s voice chunk parts sequence
+
+unfoldable pub partsThen : List ℕ → Voice → Chunk → Checked Track
+partsThen s voice chunk = do
+  parts ← chunkList (isAllowed (list.Track voice)) s (bodyPlace chunk + fixedSize) (placeAfter chunk)
+  afterParts s voice chunk parts

@@ -8,11 +8,11 @@ ghost use Rattle.model.specs.Bytes.{part};
 ghost use Rattle.model.specs.Item.{isFine, bodyOf, itemsOf, checkAnswer};
 ghost use Rattle.model.specs.Track.{setupHolds, seekIn, entriesOf};
 ghost use Rattle.tracks.specs.Stages.{bareOf, Inside, Near, moved};
+use super::part::body_of;
 use model::Check;
 use model::FoundChunk;
 use model::ReadBody;
 use model::Voice;
-use super::part::body_of;
 
 // A refusal whose place was counted from a body's head.
 fn moved_by(base: usize, check: Check) -> Check
@@ -35,7 +35,10 @@ pub fn check_setup(s: &[u8], setup: FoundChunk) -> Check
     ensures { λ r. ⌜ r ≡ checkAnswer (setupHolds (now (s .entry)) (bareOf setup)) ⌝ }
 {
     match setup {
-        FoundChunk::At { place, size } => moved_by(place + 8, items::read_setup(body_of(s, place, size))),
+        FoundChunk::At { place, size } => moved_by(
+            place + 8,
+            items::read_setup(body_of(s, place, size)),
+        ),
         FoundChunk::Nowhere => Check::Passed,
     }
 }
@@ -83,7 +86,10 @@ pub fn check_seek(voice: Voice, phrases: bool, body: &[u8], s: &[u8], found: Fou
     ensures { λ r. ⌜ r ≡ checkAnswer (entriesOf phrases (itemsOf voice (now (body .entry))) (length (now (body .entry))) (now (s .entry)) (bareOf found)) ⌝ }
 {
     match found {
-        FoundChunk::At { place, size } => moved_by(place + 8, check_entries(voice, phrases, body, body_of(s, place, size))),
+        FoundChunk::At { place, size } => moved_by(
+            place + 8,
+            check_entries(voice, phrases, body, body_of(s, place, size)),
+        ),
         FoundChunk::Nowhere => Check::Passed,
     }
 }

@@ -2,6 +2,7 @@
 mod body;
 mod fixed;
 mod part;
+mod track;
 
 pub use part::body_of;
 pub use part::find_part;
