@@ -1,16 +1,10 @@
+-- `probe::run` meets its contract.
 use borrow.Author.Needs.{needs}
 use Prim.Native.Nat.{_≤_, _-_}
 use mathlib.Core.Path.{_≡_}
 use lib.ListN.{length}
 use Rattle.probe.proofs.run.Statement.{statement}
 use Rattle.probe.proofs.run.Tie as tie
-use Rattle.probe.proofs.run.Reads as reads
-use Rattle.probe.proofs.run.Lts as lts
-use Rattle.probe.proofs.answer.Reads as answer-reads
-use Rattle.probe.proofs.is_good.Reads as is-good-reads
-use Rattle.probe.proofs.next_case.Reads as next-case-reads
-use Rattle.text.proofs.flush.Reads as flush-reads
-use Rattle.text.proofs.put.Reads as put-reads
 
 abbrev Inv-loop : tie.InvT-loop
 Inv-loop page₀ buffer₀ used₀ turns₀ t6 page buffer used turns = (turns ≤ 1000000000) × (length page ≡ length page₀) × (length buffer ≡ length buffer₀)

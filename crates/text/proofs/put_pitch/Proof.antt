@@ -1,14 +1,10 @@
+-- `text::put_pitch` meets its contract.
 use borrow.Author.Needs.{needs}
 use Prim.Native.Nat.{_≤_, _-_}
 use mathlib.Core.Path.{_≡_}
 use lib.ListN.{length}
 use Rattle.text.proofs.put_pitch.Statement.{statement}
 use Rattle.text.proofs.put_pitch.Tie as tie
-use Rattle.text.proofs.put_pitch.Reads as reads
-use Rattle.text.proofs.put_pitch.Lts as lts
-use Rattle.pitch.proofs.minus.Reads as minus-reads
-use Rattle.text.proofs.put_above.Reads as put-above-reads
-use Rattle.text.proofs.put_byte.Reads as put-byte-reads
 
 abbrev Inv-loop : tie.InvT-loop
 Inv-loop page₀ used above k₀ page k = (k ≤ 144) × (length page ≡ length page₀)

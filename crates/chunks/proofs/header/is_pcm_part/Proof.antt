@@ -1,46 +1,35 @@
+-- `chunks::header::is_pcm_part` meets its contract.
 use Rattle.model.proofs.Tests.{tests}
 use Rattle.model.proofs.Tests.{junctions}
 use Rattle.model.specs.Track.{isPart}
 use borrow.Author.Needs.{needs}
 use Rattle.chunks.proofs.header.is_pcm_part.Statement.{statement}
 use Rattle.chunks.proofs.header.is_pcm_part.Tie as tie
-use Rattle.chunks.proofs.header.is_pcm_part.Reads as reads
-use Rattle.chunks.proofs.header.is_pcm_part.Lts as lts
-use Rattle.chunks.proofs.header.is_wave_id.Reads as is-wave-id-reads
-use Rattle.numbers.proofs.same_id.Reads as same-id-reads
 
--- src/header.rt:87:8
 same-id-requires : tie.Need-same-id-requires
 same-id-requires c κs = search needs
 
--- src/header.rt:88:9
 returns : tie.Need-returns
 unfolding isPart
 returns c = search (tests, junctions) depth 9 fits 20000
 
--- src/header.rt:90:8
 same-id-requires-2 : tie.Need-same-id-requires-2
 same-id-requires-2 c κs = search needs
 
--- src/header.rt:91:9
 returns-2 : tie.Need-returns-2
 unfolding isPart
 returns-2 c = search (tests, junctions) depth 9 fits 20000
 
--- src/header.rt:93:8
 same-id-requires-3 : tie.Need-same-id-requires-3
 same-id-requires-3 c κs = search needs
 
--- src/header.rt:94:9
 returns-3 : tie.Need-returns-3
 unfolding isPart
 returns-3 c = search (tests, junctions) depth 9 fits 20000
 
--- src/header.rt:96:5
 is-wave-id-requires : tie.Need-is-wave-id-requires
 is-wave-id-requires c κs = search needs
 
--- src/header.rt:83:1
 returns-4 : tie.Need-returns-4
 unfolding isPart
 returns-4 c = search (tests, junctions) depth 9 fits 20000

@@ -1,46 +1,35 @@
+-- `chunks::header::is_track` meets its contract.
 use Rattle.model.proofs.Tests.{tests}
 use Rattle.model.proofs.Tests.{junctions}
 use Rattle.model.specs.Track.{isTrack}
 use borrow.Author.Needs.{needs}
 use Rattle.chunks.proofs.header.is_track.Statement.{statement}
 use Rattle.chunks.proofs.header.is_track.Tie as tie
-use Rattle.chunks.proofs.header.is_track.Reads as reads
-use Rattle.chunks.proofs.header.is_track.Lts as lts
-use Rattle.numbers.proofs.same_family.Reads as same-family-reads
-use Rattle.numbers.proofs.same_id.Reads as same-id-reads
 
--- src/header.rt:34:8
 same-family-requires : tie.Need-same-family-requires
 same-family-requires c κs = search needs
 
--- src/header.rt:35:9
 returns : tie.Need-returns
 unfolding isTrack
 returns c = search (tests, junctions) depth 9 fits 20000
 
--- src/header.rt:37:8
 same-family-requires-2 : tie.Need-same-family-requires-2
 same-family-requires-2 c κs = search needs
 
--- src/header.rt:38:9
 returns-2 : tie.Need-returns-2
 unfolding isTrack
 returns-2 c = search (tests, junctions) depth 9 fits 20000
 
--- src/header.rt:40:8
 same-family-requires-3 : tie.Need-same-family-requires-3
 same-family-requires-3 c κs = search needs
 
--- src/header.rt:41:9
 returns-3 : tie.Need-returns-3
 unfolding isTrack
 returns-3 c = search (tests, junctions) depth 9 fits 20000
 
--- src/header.rt:43:5
 same-id-requires : tie.Need-same-id-requires
 same-id-requires c κs = search needs
 
--- src/header.rt:30:1
 returns-4 : tie.Need-returns-4
 unfolding isTrack
 returns-4 c = search (tests, junctions) depth 9 fits 20000

@@ -1,60 +1,46 @@
+-- `chunks::header::read_chunk` meets its contract.
 use Rattle.model.proofs.Tests.{tests}
 use Rattle.chunks.proofs.Matches.{numbers}
 use Rattle.model.specs.Chunk.{readChunk}
 use borrow.Author.Needs.{needs}
 use Rattle.chunks.proofs.header.read_chunk.Statement.{statement}
 use Rattle.chunks.proofs.header.read_chunk.Tie as tie
-use Rattle.chunks.proofs.header.read_chunk.Reads as reads
-use Rattle.chunks.proofs.header.read_chunk.Lts as lts
-use Rattle.numbers.proofs.number_4.Reads as number-4-reads
 
--- src/header.rt:17:8
 sub-if1 : tie.Need-sub-if1
 sub-if1 c = search needs
 
--- src/header.rt:18:9
 returns : tie.Need-returns
 unfolding readChunk
 returns c = search (tests, numbers) depth 9 fits 20000
 
--- src/header.rt:20:37
 add-number-4 : tie.Need-add-number-4
 add-number-4 c = search needs
 
--- src/header.rt:20:16
 number-4-requires : tie.Need-number-4-requires
 number-4-requires c κs = search needs
 
--- src/header.rt:20:16
 cast-size : tie.Need-cast-size
 cast-size c = search needs
 
--- src/header.rt:21:8
 sub-if2 : tie.Need-sub-if2
 sub-if2 c = search needs
 
--- src/header.rt:21:8
 sub-if2-2 : tie.Need-sub-if2-2
 sub-if2-2 c = search needs
 
--- src/header.rt:22:9
 returns-2 : tie.Need-returns-2
 unfolding readChunk
 returns-2 c = search (tests, numbers) depth 9 fits 20000
 
--- src/header.rt:25:13
 number-4-requires-2 : tie.Need-number-4-requires-2
 number-4-requires-2 c κs = search needs
 
--- src/header.rt:27:15
 add-t5 : tie.Need-add-t5
 add-t5 c = search needs
 
--- src/header.rt:27:15
 add-t8 : tie.Need-add-t8
 add-t8 c = search needs
 
--- src/header.rt:13:1
 returns-3 : tie.Need-returns-3
 unfolding readChunk
 returns-3 c = search (tests, numbers) depth 9 fits 20000

@@ -1,14 +1,9 @@
+-- `chunks::list::check_list` meets its contract.
 use borrow.Author.Needs.{needs}
 use Prim.Native.Nat.{_-_}
-use Rattle.model.specs.Track.{isAllowed}
 use Rattle.chunks.proofs.Lists.{Checking, listing}
 use Rattle.chunks.proofs.list.check_list.Statement.{statement}
 use Rattle.chunks.proofs.list.check_list.Tie as tie
-use Rattle.chunks.proofs.list.check_list.Reads as reads
-use Rattle.chunks.proofs.list.check_list.Lts as lts
-use Rattle.chunks.proofs.header.is_allowed.Reads as is-allowed-reads
-use Rattle.chunks.proofs.header.read_chunk.Reads as read-chunk-reads
-use Rattle.chunks.proofs.list.has.Reads as has-reads
 
 abbrev Inv-loop : tie.InvT-loop
 Inv-loop list s start end ids₀ count₀ at₀ ids count at = Checking list s start end ids count at

@@ -1,10 +1,9 @@
+-- `chunks::list::has` meets its contract.
 use borrow.Author.Needs.{needs}
 use Prim.Native.Nat.{_-_}
 use Rattle.chunks.proofs.Members.{Looking, looking}
 use Rattle.chunks.proofs.list.has.Statement.{statement}
 use Rattle.chunks.proofs.list.has.Tie as tie
-use Rattle.chunks.proofs.list.has.Reads as reads
-use Rattle.chunks.proofs.list.has.Lts as lts
 
 abbrev Inv-loop : tie.InvT-loop
 Inv-loop ids count id i₀ i = Looking ids count id i

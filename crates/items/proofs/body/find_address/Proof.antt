@@ -1,12 +1,10 @@
+-- `items::body::find_address` meets its contract.
 use borrow.Author.Needs.{needs}
 use Prim.Native.Nat.{_-_}
 use lib.ListN.{length}
 use Rattle.items.proofs.Addresses.{Seeking, seeking}
 use Rattle.items.proofs.body.find_address.Statement.{statement}
 use Rattle.items.proofs.body.find_address.Tie as tie
-use Rattle.items.proofs.body.find_address.Reads as reads
-use Rattle.items.proofs.body.find_address.Lts as lts
-use Rattle.items.proofs.item.read_item.Reads as read-item-reads
 
 abbrev Inv-loop : tie.InvT-loop
 Inv-loop voice s address at₀ time₀ at time = Seeking voice s address at time

@@ -1,12 +1,10 @@
+-- `items::body::read_body` meets its contract.
 use borrow.Author.Needs.{needs}
 use Prim.Native.Nat.{_-_}
 use lib.ListN.{length}
 use Rattle.items.proofs.Reading.{Reading, reading}
 use Rattle.items.proofs.body.read_body.Statement.{statement}
 use Rattle.items.proofs.body.read_body.Tie as tie
-use Rattle.items.proofs.body.read_body.Reads as reads
-use Rattle.items.proofs.body.read_body.Lts as lts
-use Rattle.items.proofs.item.read_item.Reads as read-item-reads
 
 abbrev Inv-loop : tie.InvT-loop
 Inv-loop voice s at₀ count₀ lasts₀ at count lasts = Reading voice s at count lasts

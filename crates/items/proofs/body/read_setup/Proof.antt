@@ -1,12 +1,10 @@
+-- `items::body::read_setup` meets its contract.
 use borrow.Author.Needs.{needs}
 use Prim.Native.Nat.{_-_}
 use lib.ListN.{length}
 use Rattle.items.proofs.Setup.{SettingUp, settingUp}
 use Rattle.items.proofs.body.read_setup.Statement.{statement}
 use Rattle.items.proofs.body.read_setup.Tie as tie
-use Rattle.items.proofs.body.read_setup.Reads as reads
-use Rattle.items.proofs.body.read_setup.Lts as lts
-use Rattle.items.proofs.body.read_setup_message.Reads as read-setup-message-reads
 
 abbrev Inv-loop : tie.InvT-loop
 Inv-loop s at₀ at = SettingUp s at

@@ -1,49 +1,38 @@
+-- `items::body::read_setup_message` meets its contract.
 use Rattle.model.proofs.Tests.{tests, junctions}
 use Rattle.items.proofs.Setup.{twos}
 use Rattle.model.specs.Item.{setupMessageAt}
 use borrow.Author.Needs.{needs}
 use Rattle.items.proofs.body.read_setup_message.Statement.{statement}
 use Rattle.items.proofs.body.read_setup_message.Tie as tie
-use Rattle.items.proofs.body.read_setup_message.Reads as reads
-use Rattle.items.proofs.body.read_setup_message.Lts as lts
-use Rattle.items.proofs.event.read_exclusive.Reads as read-exclusive-reads
 
--- src/body.rt:66:8
 sub-if1 : tie.Need-sub-if1
 sub-if1 c = search needs
 
--- src/body.rt:67:9
 returns : tie.Need-returns
 unfolding setupMessageAt
 returns c = search (tests, junctions, twos) depth 9 fits 20000
 
--- src/body.rt:69:8
 shared-slice-read-if2 : tie.Need-shared-slice-read-if2
 shared-slice-read-if2 c = search needs
 
--- src/body.rt:70:9
 returns-2 : tie.Need-returns-2
 unfolding setupMessageAt
 returns-2 c = search (tests, junctions, twos) depth 9 fits 20000
 
--- src/body.rt:72:10
 add-if3 : tie.Need-add-if3
 add-if3 c = search needs
 
--- src/body.rt:72:8
 shared-slice-read-if3 : tie.Need-shared-slice-read-if3
 shared-slice-read-if3 c = search needs
 
--- src/body.rt:73:9
 returns-3 : tie.Need-returns-3
 unfolding setupMessageAt
 returns-3 c = search (tests, junctions, twos) depth 9 fits 20000
 
--- src/body.rt:75:5
 read-exclusive-requires : tie.Need-read-exclusive-requires
 read-exclusive-requires c κs = search needs
 
--- src/body.rt:62:1
 returns-4 : tie.Need-returns-4
 unfolding setupMessageAt
 returns-4 c = search (tests, junctions, twos) depth 9 fits 20000

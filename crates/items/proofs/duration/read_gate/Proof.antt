@@ -1,36 +1,28 @@
+-- `items::duration::read_gate` meets its contract.
 use Rattle.model.proofs.Tests.{tests}
 use Rattle.items.proofs.Matches.{matches}
 use Rattle.model.specs.Duration.{gateAt}
 use borrow.Author.Needs.{needs}
 use Rattle.items.proofs.duration.read_gate.Statement.{statement}
 use Rattle.items.proofs.duration.read_gate.Tie as tie
-use Rattle.items.proofs.duration.read_gate.Reads as reads
-use Rattle.items.proofs.duration.read_gate.Lts as lts
-use Rattle.items.proofs.duration.read_duration.Reads as read-duration-reads
 
--- src/duration.rt:49:11
 read-duration-requires : tie.Need-read-duration-requires
 read-duration-requires c κs = search needs
 
--- src/duration.rt:50:28
 enum-known-value : tie.Need-enum-known-value
 enum-known-value c = search needs
 
--- src/duration.rt:52:17
 returns : tie.Need-returns
 unfolding gateAt
 returns c = search (tests, matches) depth 9 fits 20000
 
--- src/duration.rt:56:34
 enum-told : tie.Need-enum-told
 enum-told c = search needs
 
--- src/duration.rt:46:1
 returns-2 : tie.Need-returns-2
 unfolding gateAt
 returns-2 c = search (tests, matches) depth 9 fits 20000
 
--- src/duration.rt:46:1
 returns-3 : tie.Need-returns-3
 unfolding gateAt
 returns-3 c = search (tests, matches) depth 9 fits 20000

@@ -1,29 +1,23 @@
+-- `items::event::has_kind` meets its contract.
 use Rattle.model.proofs.Tests.{junctions}
 use Rattle.model.proofs.Tests.{tests}
 use Rattle.items.proofs.Matches.{matches}
 use borrow.Author.Needs.{needs}
 use Rattle.items.proofs.event.has_kind.Statement.{statement}
 use Rattle.items.proofs.event.has_kind.Tie as tie
-use Rattle.items.proofs.event.has_kind.Reads as reads
-use Rattle.items.proofs.event.has_kind.Lts as lts
 
--- src/event.rt:87:25
 enum-told : tie.Need-enum-told
 enum-told c = search needs
 
--- src/event.rt:89:16
 enum-told-2 : tie.Need-enum-told-2
 enum-told-2 c = search needs
 
--- src/event.rt:90:17
 returns : tie.Need-returns
 returns c = search (tests, junctions, matches) depth 9 fits 20000
 
--- src/event.rt:83:1
 returns-2 : tie.Need-returns-2
 returns-2 c = search (tests, junctions, matches) depth 9 fits 20000
 
--- src/event.rt:83:1
 returns-3 : tie.Need-returns-3
 returns-3 c = search (tests, junctions, matches) depth 9 fits 20000
 

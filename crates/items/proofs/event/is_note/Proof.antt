@@ -1,17 +1,14 @@
+-- `items::event::is_note` meets its contract.
 use Rattle.model.proofs.Tests.{junctions}
 use Rattle.model.proofs.Tests.{tests}
 use Rattle.model.specs.Event.{isNote}
 use Rattle.items.proofs.event.is_note.Statement.{statement}
 use Rattle.items.proofs.event.is_note.Tie as tie
-use Rattle.items.proofs.event.is_note.Reads as reads
-use Rattle.items.proofs.event.is_note.Lts as lts
 
--- src/event.rt:16:9
 returns : tie.Need-returns
 unfolding isNote
 returns c = search (tests, junctions) depth 9 fits 20000
 
--- src/event.rt:12:1
 returns-2 : tie.Need-returns-2
 unfolding isNote
 returns-2 c = search (tests, junctions) depth 9 fits 20000

@@ -1,22 +1,18 @@
+-- `items::event::is_shift` meets its contract.
 use Rattle.model.proofs.Tests.{junctions}
 use Rattle.model.proofs.Tests.{tests}
 use Rattle.model.specs.Event.{isShift}
 use Rattle.items.proofs.event.is_shift.Statement.{statement}
 use Rattle.items.proofs.event.is_shift.Tie as tie
-use Rattle.items.proofs.event.is_shift.Reads as reads
-use Rattle.items.proofs.event.is_shift.Lts as lts
 
--- src/event.rt:101:9
 returns : tie.Need-returns
 unfolding isShift
 returns c = search (tests, junctions) depth 9 fits 20000
 
--- src/event.rt:104:9
 returns-2 : tie.Need-returns-2
 unfolding isShift
 returns-2 c = search (tests, junctions) depth 9 fits 20000
 
--- src/event.rt:97:1
 returns-3 : tie.Need-returns-3
 unfolding isShift
 returns-3 c = search (tests, junctions) depth 9 fits 20000

@@ -1,17 +1,14 @@
+-- `items::event::is_wave` meets its contract.
 use Rattle.model.proofs.Tests.{junctions}
 use Rattle.model.proofs.Tests.{tests}
 use Rattle.model.specs.Event.{isWave}
 use Rattle.items.proofs.event.is_wave.Statement.{statement}
 use Rattle.items.proofs.event.is_wave.Tie as tie
-use Rattle.items.proofs.event.is_wave.Reads as reads
-use Rattle.items.proofs.event.is_wave.Lts as lts
 
--- src/event.rt:25:9
 returns : tie.Need-returns
 unfolding isWave
 returns c = search (tests, junctions) depth 9 fits 20000
 
--- src/event.rt:21:1
 returns-2 : tie.Need-returns-2
 unfolding isWave
 returns-2 c = search (tests, junctions) depth 9 fits 20000

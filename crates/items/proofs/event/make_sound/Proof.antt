@@ -1,24 +1,19 @@
+-- `items::event::make_sound` meets its contract.
 use Rattle.model.proofs.Tests.{tests}
 use Rattle.items.proofs.Matches.{matches}
 use borrow.Author.Needs.{needs}
 use Rattle.items.proofs.event.make_sound.Statement.{statement}
 use Rattle.items.proofs.event.make_sound.Tie as tie
-use Rattle.items.proofs.event.make_sound.Reads as reads
-use Rattle.items.proofs.event.make_sound.Lts as lts
 
--- src/event.rt:44:22
 enum-told : tie.Need-enum-told
 enum-told c = search needs
 
--- src/event.rt:49:22
 enum-told-2 : tie.Need-enum-told-2
 enum-told-2 c = search needs
 
--- src/event.rt:39:1
 returns : tie.Need-returns
 returns c = search (tests, matches) depth 9 fits 20000
 
--- src/event.rt:39:1
 returns-2 : tie.Need-returns-2
 returns-2 c = search (tests, matches) depth 9 fits 20000
 

@@ -1,46 +1,34 @@
+-- `items::event::read_event` meets its contract.
 use Rattle.model.proofs.Tests.{tests}
 use Rattle.model.specs.Event.{eventAt}
 use borrow.Author.Needs.{needs}
 use Rattle.items.proofs.event.read_event.Statement.{statement}
 use Rattle.items.proofs.event.read_event.Tie as tie
-use Rattle.items.proofs.event.read_event.Reads as reads
-use Rattle.items.proofs.event.read_event.Lts as lts
-use Rattle.items.proofs.event.read_control.Reads as read-control-reads
-use Rattle.items.proofs.event.read_sound.Reads as read-sound-reads
-use Rattle.items.proofs.event.read_system.Reads as read-system-reads
 
--- src/event.rt:252:9
 returns : tie.Need-returns
 unfolding eventAt
 returns c = search tests depth 9 fits 20000
 
--- src/event.rt:254:16
 shared-slice-read-byte : tie.Need-shared-slice-read-byte
 shared-slice-read-byte c = search needs
 
--- src/event.rt:256:9
 read-control-requires : tie.Need-read-control-requires
 read-control-requires c κs = search needs
 
--- src/event.rt:256:9
 returns-2 : tie.Need-returns-2
 unfolding eventAt
 returns-2 c = search tests depth 9 fits 20000
 
--- src/event.rt:259:9
 read-system-requires : tie.Need-read-system-requires
 read-system-requires c κs = search needs
 
--- src/event.rt:259:9
 returns-3 : tie.Need-returns-3
 unfolding eventAt
 returns-3 c = search tests depth 9 fits 20000
 
--- src/event.rt:261:5
 read-sound-requires : tie.Need-read-sound-requires
 read-sound-requires c κs = search needs
 
--- src/event.rt:248:1
 returns-4 : tie.Need-returns-4
 unfolding eventAt
 returns-4 c = search tests depth 9 fits 20000

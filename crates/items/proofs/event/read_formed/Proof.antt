@@ -1,37 +1,27 @@
+-- `items::event::read_formed` meets its contract.
 use Rattle.items.proofs.Matches.{matches}
 use Rattle.model.proofs.Tests.{tests}
 use Rattle.model.specs.Event.{formed}
 use borrow.Author.Needs.{needs}
 use Rattle.items.proofs.event.read_formed.Statement.{statement}
 use Rattle.items.proofs.event.read_formed.Tie as tie
-use Rattle.items.proofs.event.read_formed.Reads as reads
-use Rattle.items.proofs.event.read_formed.Lts as lts
-use Rattle.items.proofs.event.long_kind.Reads as long-kind-reads
-use Rattle.items.proofs.event.read_long.Reads as read-long-reads
-use Rattle.items.proofs.event.read_short.Reads as read-short-reads
 
--- src/event.rt:179:51
 long-kind-requires : tie.Need-long-kind-requires
 long-kind-requires c κs = search needs
 
--- src/event.rt:179:9
 read-long-requires : tie.Need-read-long-requires
 read-long-requires c κs = search needs
 
--- src/event.rt:179:9
 returns : tie.Need-returns
 unfolding formed
 returns c = search (tests, matches) depth 9 fits 20000
 
--- src/event.rt:181:38
 sub-read-short : tie.Need-sub-read-short
 sub-read-short c = search needs
 
--- src/event.rt:181:5
 read-short-requires : tie.Need-read-short-requires
 read-short-requires c κs = search needs
 
--- src/event.rt:174:1
 returns-2 : tie.Need-returns-2
 unfolding formed
 returns-2 c = search (tests, matches) depth 9 fits 20000

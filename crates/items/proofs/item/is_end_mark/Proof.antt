@@ -1,3 +1,4 @@
+-- `items::item::is_end_mark` meets its contract.
 use Rattle.model.proofs.Tests.{junctions}
 use Rattle.model.proofs.Tests.{tests}
 use Rattle.items.proofs.Matches.{rooms}
@@ -5,67 +6,51 @@ use Rattle.model.specs.Item.{isEndMark}
 use borrow.Author.Needs.{needs}
 use Rattle.items.proofs.item.is_end_mark.Statement.{statement}
 use Rattle.items.proofs.item.is_end_mark.Tie as tie
-use Rattle.items.proofs.item.is_end_mark.Reads as reads
-use Rattle.items.proofs.item.is_end_mark.Lts as lts
 
--- src/item.rt:15:9
 returns : tie.Need-returns
 unfolding isEndMark
 returns c = search (tests, junctions, rooms) depth 12 fits 20000
 
--- src/item.rt:17:8
 sub-if2 : tie.Need-sub-if2
 sub-if2 c = search needs
 
--- src/item.rt:18:9
 returns-2 : tie.Need-returns-2
 unfolding isEndMark
 returns-2 c = search (tests, junctions, rooms) depth 12 fits 20000
 
--- src/item.rt:20:8
 shared-slice-read-if3 : tie.Need-shared-slice-read-if3
 shared-slice-read-if3 c = search needs
 
--- src/item.rt:21:9
 returns-3 : tie.Need-returns-3
 unfolding isEndMark
 returns-3 c = search (tests, junctions, rooms) depth 12 fits 20000
 
--- src/item.rt:23:10
 add-if4 : tie.Need-add-if4
 add-if4 c = search needs
 
--- src/item.rt:23:8
 shared-slice-read-if4 : tie.Need-shared-slice-read-if4
 shared-slice-read-if4 c = search needs
 
--- src/item.rt:24:9
 returns-4 : tie.Need-returns-4
 unfolding isEndMark
 returns-4 c = search (tests, junctions, rooms) depth 12 fits 20000
 
--- src/item.rt:26:10
 add-if5 : tie.Need-add-if5
 add-if5 c = search needs
 
--- src/item.rt:26:8
 shared-slice-read-if5 : tie.Need-shared-slice-read-if5
 shared-slice-read-if5 c = search needs
 
--- src/item.rt:27:9
 returns-5 : tie.Need-returns-5
 unfolding isEndMark
 returns-5 c = search (tests, junctions, rooms) depth 12 fits 20000
 
--- src/item.rt:29:7
 add-result : tie.Need-add-result
 add-result c = search needs
 
--- src/item.rt:29:5
 shared-slice-read-result : tie.Need-shared-slice-read-result
 shared-slice-read-result c = search needs
 
--- src/item.rt:11:1
 returns-6 : tie.Need-returns-6
 unfolding isEndMark
 returns-6 c = search (tests, junctions, rooms) depth 12 fits 20000

@@ -1,3 +1,4 @@
+-- `items::item::read_item` meets its contract.
 use native.Mathlib.Omega.{arith}
 use mathlib.Core.Path.{sym, _∙_}
 use Rattle.items.proofs.Matches.{end-mark-within}
@@ -7,60 +8,43 @@ use Rattle.model.specs.Item.{itemAt}
 use borrow.Author.Needs.{needs}
 use Rattle.items.proofs.item.read_item.Statement.{statement}
 use Rattle.items.proofs.item.read_item.Tie as tie
-use Rattle.items.proofs.item.read_item.Reads as reads
-use Rattle.items.proofs.item.read_item.Lts as lts
-use Rattle.items.proofs.duration.read_duration.Reads as read-duration-reads
-use Rattle.items.proofs.event.read_event.Reads as read-event-reads
-use Rattle.items.proofs.item.is_end_mark.Reads as is-end-mark-reads
 
--- src/item.rt:35:8
 is-end-mark-requires : tie.Need-is-end-mark-requires
 is-end-mark-requires c κs = search needs
 
--- src/item.rt:36:42
 add-t9 : tie.Need-add-t9
 add-t9 c = omega (arith, end-mark-within _ _ (sym (c .before .is-end-mark .ensures) ∙ c .if1 .taken))
 
--- src/item.rt:36:9
 returns : tie.Need-returns
 unfolding itemAt
 returns c = search (tests, matches) depth 9 fits 20000
 
--- src/item.rt:38:11
 read-duration-requires : tie.Need-read-duration-requires
 read-duration-requires c κs = search needs
 
--- src/item.rt:39:28
 enum-known-value : tie.Need-enum-known-value
 enum-known-value c = search needs
 
--- src/item.rt:39:51
 read-event-requires : tie.Need-read-event-requires
 read-event-requires c κs = search needs
 
--- src/item.rt:40:29
 enum-known-event : tie.Need-enum-known-event
 enum-known-event c = search needs
 
--- src/item.rt:45:35
 enum-told : tie.Need-enum-told
 enum-told c = search needs
 
--- src/item.rt:50:34
 enum-told-2 : tie.Need-enum-told-2
 enum-told-2 c = search needs
 
--- src/item.rt:32:1
 returns-2 : tie.Need-returns-2
 unfolding itemAt
 returns-2 c = search (tests, matches) depth 9 fits 20000
 
--- src/item.rt:32:1
 returns-3 : tie.Need-returns-3
 unfolding itemAt
 returns-3 c = search (tests, matches) depth 9 fits 20000
 
--- src/item.rt:32:1
 returns-4 : tie.Need-returns-4
 unfolding itemAt
 returns-4 c = search (tests, matches) depth 9 fits 20000

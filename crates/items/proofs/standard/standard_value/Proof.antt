@@ -1,39 +1,31 @@
+-- `items::standard::standard_value` meets its contract.
 use Rattle.model.proofs.Tests.{tests}
 use Rattle.model.specs.Event.{standardValue}
 use Rattle.items.proofs.Matches.{standard-past}
 use borrow.Author.Needs.{needs}
 use Rattle.items.proofs.standard.standard_value.Statement.{statement}
 use Rattle.items.proofs.standard.standard_value.Tie as tie
-use Rattle.items.proofs.standard.standard_value.Reads as reads
-use Rattle.items.proofs.standard.standard_value.Lts as lts
 
--- src/standard.rt:64:9
 returns : tie.Need-returns
 returns c = search standard-past
 
--- src/standard.rt:68:16
 array-read-result : tie.Need-array-read-result
 array-read-result c = search needs
 
--- src/standard.rt:68:9
 returns-2 : tie.Need-returns-2
 unfolding standardValue
 returns-2 c = search tests depth 9 fits 20000
 
--- src/standard.rt:71:16
 array-read-result-2 : tie.Need-array-read-result-2
 array-read-result-2 c = search needs
 
--- src/standard.rt:71:9
 returns-3 : tie.Need-returns-3
 unfolding standardValue
 returns-3 c = search tests depth 9 fits 20000
 
--- src/standard.rt:73:5
 array-read-result-3 : tie.Need-array-read-result-3
 array-read-result-3 c = search needs
 
--- src/standard.rt:60:1
 returns-4 : tie.Need-returns-4
 unfolding standardValue
 returns-4 c = search tests depth 9 fits 20000

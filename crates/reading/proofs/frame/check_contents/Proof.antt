@@ -1,33 +1,25 @@
+-- `reading::frame::check_contents` meets its contract.
 use Rattle.model.proofs.Answers.{checks, answer-of-fine}
 use Rattle.model.proofs.Tests.{flag-on, flag-off, is-on, is-off}
 use Rattle.reading.specs.Stages.{contentsHold}
 use borrow.Author.Needs.{needs}
 use Rattle.reading.proofs.frame.check_contents.Statement.{statement}
 use Rattle.reading.proofs.frame.check_contents.Tie as tie
-use Rattle.reading.proofs.frame.check_contents.Reads as reads
-use Rattle.reading.proofs.frame.check_contents.Lts as lts
-use Rattle.chunks.proofs.has_chunk.Reads as has-chunk-reads
-use Rattle.reading.proofs.frame.opens_with_contents.Reads as opens-with-contents-reads
 
--- src/frame.rt:72:9
 opens-with-contents-requires : tie.Need-opens-with-contents-requires
 opens-with-contents-requires c κs = search needs
 
--- src/frame.rt:73:9
 returns : tie.Need-returns
 unfolding contentsHold
 returns c = search (checks, answer-of-fine, flag-on, flag-off, is-on, is-off) depth 9 fits 20000
 
--- src/frame.rt:78:9
 has-chunk-requires : tie.Need-has-chunk-requires
 has-chunk-requires c κs = search needs
 
--- src/frame.rt:79:9
 returns-2 : tie.Need-returns-2
 unfolding contentsHold
 returns-2 c = search (checks, answer-of-fine, flag-on, flag-off, is-on, is-off) depth 9 fits 20000
 
--- src/frame.rt:67:1
 returns-3 : tie.Need-returns-3
 unfolding contentsHold
 returns-3 c = search (checks, answer-of-fine, flag-on, flag-off, is-on, is-off) depth 9 fits 20000

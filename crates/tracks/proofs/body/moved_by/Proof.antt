@@ -1,28 +1,22 @@
+-- `tracks::body::moved_by` meets its contract.
 use Rattle.tracks.proofs.Answers.{near-fits}
 use Rattle.tracks.proofs.Answers.{moved-passed, moved-refused}
 use borrow.Author.Needs.{needs}
 use Rattle.tracks.proofs.body.moved_by.Statement.{statement}
 use Rattle.tracks.proofs.body.moved_by.Tie as tie
-use Rattle.tracks.proofs.body.moved_by.Reads as reads
-use Rattle.tracks.proofs.body.moved_by.Lts as lts
 
--- src/body.rt:24:26
 enum-told : tie.Need-enum-told
 enum-told c = search needs
 
--- src/body.rt:25:26
 enum-known-check : tie.Need-enum-known-check
 enum-known-check c = search needs
 
--- src/body.rt:27:20
 add-t6 : tie.Need-add-t6
 add-t6 c = search near-fits
 
--- src/body.rt:18:1
 returns : tie.Need-returns
 returns c = search (moved-passed, moved-refused)
 
--- src/body.rt:18:1
 returns-2 : tie.Need-returns-2
 returns-2 c = search (moved-passed, moved-refused)
 

@@ -1,3 +1,4 @@
+-- `tracks::fixed::check_fixed` meets its contract.
 use Rattle.model.proofs.Tests.{tests}
 use Rattle.model.proofs.Tests.{not-on, not-off}
 use Rattle.model.proofs.Answers.{answers}
@@ -5,52 +6,38 @@ use Rattle.model.specs.Track.{fixedHolds}
 use borrow.Author.Needs.{needs}
 use Rattle.tracks.proofs.fixed.check_fixed.Statement.{statement}
 use Rattle.tracks.proofs.fixed.check_fixed.Tie as tie
-use Rattle.tracks.proofs.fixed.check_fixed.Reads as reads
-use Rattle.tracks.proofs.fixed.check_fixed.Lts as lts
-use Rattle.tracks.proofs.fixed.has_base_d.Reads as has-base-d-reads
-use Rattle.tracks.proofs.fixed.has_base_g.Reads as has-base-g-reads
 
--- src/fixed.rt:49:16
 add-body : tie.Need-add-body
 add-body c = search needs
 
--- src/fixed.rt:51:9
 returns : tie.Need-returns
 unfolding fixedHolds
 returns c = search (answers, tests, not-on, not-off) depth 12 fits 20000
 
--- src/fixed.rt:56:14
 add-if2 : tie.Need-add-if2
 add-if2 c = search needs
 
--- src/fixed.rt:56:12
 shared-slice-read-if2 : tie.Need-shared-slice-read-if2
 shared-slice-read-if2 c = search needs
 
--- src/fixed.rt:57:9
 returns-2 : tie.Need-returns-2
 unfolding fixedHolds
 returns-2 c = search (answers, tests, not-on, not-off) depth 12 fits 20000
 
--- src/fixed.rt:62:9
 has-base-d-requires : tie.Need-has-base-d-requires
 has-base-d-requires c κs = search needs
 
--- src/fixed.rt:63:9
 returns-3 : tie.Need-returns-3
 unfolding fixedHolds
 returns-3 c = search (answers, tests, not-on, not-off) depth 12 fits 20000
 
--- src/fixed.rt:68:9
 has-base-g-requires : tie.Need-has-base-g-requires
 has-base-g-requires c κs = search needs
 
--- src/fixed.rt:69:9
 returns-4 : tie.Need-returns-4
 unfolding fixedHolds
 returns-4 c = search (answers, tests, not-on, not-off) depth 12 fits 20000
 
--- src/fixed.rt:45:1
 returns-5 : tie.Need-returns-5
 unfolding fixedHolds
 returns-5 c = search (answers, tests, not-on, not-off) depth 12 fits 20000

@@ -1,48 +1,36 @@
+-- `tracks::fixed::has_base_d` meets its contract.
 use Rattle.tracks.proofs.Parts.{bases}
 use borrow.Author.Needs.{needs}
 use Rattle.tracks.proofs.fixed.has_base_d.Statement.{statement}
 use Rattle.tracks.proofs.fixed.has_base_d.Tie as tie
-use Rattle.tracks.proofs.fixed.has_base_d.Reads as reads
-use Rattle.tracks.proofs.fixed.has_base_d.Lts as lts
-use Rattle.tracks.proofs.fixed.is_time_base.Reads as is-time-base-reads
 
--- src/fixed.rt:29:40
 enum-told : tie.Need-enum-told
 enum-told c = search needs
 
--- src/fixed.rt:29:40
 add-is-time-base : tie.Need-add-is-time-base
 add-is-time-base c = search needs
 
--- src/fixed.rt:29:38
 shared-slice-read-is-time-base : tie.Need-shared-slice-read-is-time-base
 shared-slice-read-is-time-base c = search needs
 
--- src/fixed.rt:29:25
 is-time-base-requires : tie.Need-is-time-base-requires
 is-time-base-requires c κs = search needs
 
--- src/fixed.rt:30:38
 enum-told-2 : tie.Need-enum-told-2
 enum-told-2 c = search needs
 
--- src/fixed.rt:30:38
 add-is-time-base-2 : tie.Need-add-is-time-base-2
 add-is-time-base-2 c = search needs
 
--- src/fixed.rt:30:36
 shared-slice-read-is-time-base-2 : tie.Need-shared-slice-read-is-time-base-2
 shared-slice-read-is-time-base-2 c = search needs
 
--- src/fixed.rt:30:23
 is-time-base-requires-2 : tie.Need-is-time-base-requires-2
 is-time-base-requires-2 c κs = search needs
 
--- src/fixed.rt:24:1
 returns : tie.Need-returns
 returns c = search bases
 
--- src/fixed.rt:24:1
 returns-2 : tie.Need-returns-2
 returns-2 c = search bases
 

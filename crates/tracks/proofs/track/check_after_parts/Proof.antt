@@ -1,65 +1,47 @@
+-- `tracks::track::check_after_parts` meets its contract.
 use Rattle.tracks.proofs.Stages.{part-there}
 use Rattle.tracks.proofs.Stages.{missing}
 use Rattle.tracks.proofs.Stages.{part-inside}
 use borrow.Author.Needs.{needs}
 use Rattle.tracks.proofs.track.check_after_parts.Statement.{statement}
 use Rattle.tracks.proofs.track.check_after_parts.Tie as tie
-use Rattle.tracks.proofs.track.check_after_parts.Reads as reads
-use Rattle.tracks.proofs.track.check_after_parts.Lts as lts
-use Rattle.tracks.proofs.body.check_setup.Reads as check-setup-reads
-use Rattle.tracks.proofs.part.find_part.Reads as find-part-reads
-use Rattle.tracks.proofs.part.has_waves.Reads as has-waves-reads
-use Rattle.tracks.proofs.track.check_after_setup.Reads as check-after-setup-reads
 
--- src/track.rt:42:42
 find-part-requires : tie.Need-find-part-requires
 find-part-requires c κs = search needs
 
--- src/track.rt:42:26
 enum-known-place : tie.Need-enum-known-place
 enum-known-place c = search needs
 
--- src/track.rt:43:9
 enum-told : tie.Need-enum-told
 enum-told c = search needs
 
--- src/track.rt:43:9
 returns : tie.Need-returns
 returns c = search missing
 
--- src/track.rt:48:9
 has-waves-requires : tie.Need-has-waves-requires
 has-waves-requires c κs = search needs
 
--- src/track.rt:49:9
 returns-2 : tie.Need-returns-2
 returns-2 c = search missing
 
--- src/track.rt:54:26
 find-part-requires-2 : tie.Need-find-part-requires-2
 find-part-requires-2 c κs = search needs
 
--- src/track.rt:54:11
 check-setup-requires : tie.Need-check-setup-requires
 check-setup-requires c κs = (search part-inside, search needs)
 
--- src/track.rt:55:26
 enum-known-number : tie.Need-enum-known-number
 enum-known-number c = search needs
 
--- src/track.rt:56:26
 enum-told-2 : tie.Need-enum-told-2
 enum-told-2 c = search needs
 
--- src/track.rt:56:26
 check-after-setup-requires : tie.Need-check-after-setup-requires
 check-after-setup-requires c κs = (search needs, (search needs, search part-there))
 
--- src/track.rt:37:1
 returns-3 : tie.Need-returns-3
 returns-3 c = search missing
 
--- src/track.rt:37:1
 returns-4 : tie.Need-returns-4
 returns-4 c = search missing
 

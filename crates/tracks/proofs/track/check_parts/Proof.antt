@@ -1,50 +1,37 @@
+-- `tracks::track::check_parts` meets its contract.
 use Rattle.tracks.proofs.Stages.{parts-fine}
 use Rattle.tracks.proofs.Stages.{listed}
 use borrow.Author.Needs.{needs}
 use Rattle.tracks.proofs.track.check_parts.Statement.{statement}
 use Rattle.tracks.proofs.track.check_parts.Tie as tie
-use Rattle.tracks.proofs.track.check_parts.Reads as reads
-use Rattle.tracks.proofs.track.check_parts.Lts as lts
-use Rattle.chunks.proofs.check_list.Reads as check-list-reads
-use Rattle.tracks.proofs.track.check_after_parts.Reads as check-after-parts-reads
 
--- src/track.rt:79:17
 add-start : tie.Need-add-start
 add-start c = search needs
 
--- src/track.rt:79:17
 add-start-2 : tie.Need-add-start-2
 add-start-2 c = search needs
 
--- src/track.rt:80:15
 add-end : tie.Need-add-end
 add-end c = search needs
 
--- src/track.rt:80:15
 add-end-2 : tie.Need-add-end-2
 add-end-2 c = search needs
 
--- src/track.rt:81:11
 check-list-requires : tie.Need-check-list-requires
 check-list-requires c κs = search needs
 
--- src/track.rt:82:26
 enum-known-number : tie.Need-enum-known-number
 enum-known-number c = search needs
 
--- src/track.rt:83:26
 enum-told : tie.Need-enum-told
 enum-told c = search needs
 
--- src/track.rt:83:26
 check-after-parts-requires : tie.Need-check-after-parts-requires
 check-after-parts-requires c κs = (search needs, search parts-fine)
 
--- src/track.rt:73:1
 returns : tie.Need-returns
 returns c = search listed
 
--- src/track.rt:73:1
 returns-2 : tie.Need-returns-2
 returns-2 c = search listed
 
