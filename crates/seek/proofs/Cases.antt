@@ -26,6 +26,18 @@ end-told entry told z e h = rw e h
 pub moved-told : (place : ℕ) (entry told z : ReadEntry) → entry ≡ told → z ≡ movedTo place told → z ≡ movedTo place entry
 moved-told place entry told z e h = rw e h
 
+pub rank-told : (entry told : ReadEntry) (z : ℕ) → entry ≡ told → z ≡ rankOf told → z ≡ rankOf entry
+rank-told entry told z e h = rw e h
+
+pub slot-told : (entry told : ReadEntry) (z : ℕ) → entry ≡ told → z ≡ slotOf told → z ≡ slotOf entry
+slot-told entry told z e h = rw e h
+
+pub noted-told : (points : Points) (at : ℕ) (entry told : ReadEntry) (z : Points) → entry ≡ told → z ≡ noted points at told → z ≡ noted points at entry
+noted-told points at entry told z e h = rw e h
+
+pub named-told : (letter : ℕ) (entry told : ReadEntry) (z : FoundPhrase) → entry ≡ told → z ≡ phraseNamed letter told → z ≡ phraseNamed letter entry
+named-told letter entry told z e h = rw e h
+
 -- what follows an entry
 
 module _ (width : ℕ) (s : List ℕ) (at : ℕ) (entry : ReadEntry) (end : ℕ) (is : entry ≡ entryAt width s at) (ends : end ≡ endOf entry) where
@@ -42,15 +54,3 @@ module _ (width : ℕ) (s : List ℕ) (at : ℕ) (entry : ReadEntry) (end : ℕ)
   next-other h g = rw (← is, ← ends) (if-no _ _ _ _ (lt-leb (length s) end h) (if-no _ _ _ _ (ne-eqb (s ! end) 0x2C g) refl))
 
 pub ruleset nexts = (next-last, next-comma, next-other)
-
-pub rank-told : (entry told : ReadEntry) (z : ℕ) → entry ≡ told → z ≡ rankOf told → z ≡ rankOf entry
-rank-told entry told z e h = rw e h
-
-pub slot-told : (entry told : ReadEntry) (z : ℕ) → entry ≡ told → z ≡ slotOf told → z ≡ slotOf entry
-slot-told entry told z e h = rw e h
-
-pub noted-told : (points : Points) (at : ℕ) (entry told : ReadEntry) (z : Points) → entry ≡ told → z ≡ noted points at told → z ≡ noted points at entry
-noted-told points at entry told z e h = rw e h
-
-pub named-told : (letter : ℕ) (entry told : ReadEntry) (z : FoundPhrase) → entry ≡ told → z ≡ phraseNamed letter told → z ≡ phraseNamed letter entry
-named-told letter entry told z e h = rw e h

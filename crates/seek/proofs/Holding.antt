@@ -82,16 +82,20 @@ module _ {A : Type 0} (test : A → Checked (Unit {0})) (one : A) (others : List
   unfolding allPass _>>_
   all-go-on h = rw h refl
 
-module _ (phrases : Bool) (items : Items) (size : ℕ) (s : List ℕ) where
-  -- the rule for an entry, in the light of them all
-  abbrev rule : Placed Entry → Checked (Unit {0})
-  rule entry =
-      if pointHolds (isAddress items size) (isPoint phrases items size (length (orderList (allEntries phrases s) otherwise []))) (startPoint (allEntries phrases s) otherwise 0) (entry .what) then passed else
-      refused 13 (entry .place)
+-- whether an entry keeps the rules in the light of them all; and as the code tests it, in the light of what they say
+abbrev kept : Bool → Items → ℕ → Entries → Entry → Bool
+kept phrases items size all entry =
+    pointHolds (isAddress items size) (isPoint phrases items size (length (orderList all otherwise []))) (startPoint all otherwise 0) entry
+
+abbrev pub tested : Bool → List (Placed (Item Event)) → ℕ → Points → ReadEntry → Bool
+tested phrases items size points entry = entryHolds (isAddress items size) (isPoint phrases items size (points .letters)) (points .start) entry
+
+abbrev rule : Bool → Items → ℕ → Entries → Placed Entry → Checked (Unit {0})
+rule phrases items size all entry = if kept phrases items size all (entry .what) then passed else refused 13 (entry .place)
 
 abbrev pub Holding : Bool → List (Placed (Item Event)) → ℕ → List ℕ → ℕ → Type 0
 Holding phrases items size s at =
-    Walking (λ rest. checkAnswer (allPass (rule phrases items size s) rest) ≡ checkAnswer (entriesHold phrases items size (allEntries phrases s))) phrases s at
+    Walking (λ rest. checkAnswer (allPass (rule phrases items size (allEntries phrases s)) rest) ≡ checkAnswer (entriesHold phrases items size (allEntries phrases s))) phrases s at
 
 module _ (phrases : Bool) (items : Items) (size : ℕ) (s : List ℕ) where
   pub holding-starts : isFine (seekOf (pointWidth phrases) s) ≡ true → Holding phrases items size s 0
@@ -104,26 +108,25 @@ module _ (phrases : Bool) (items : Items) (size : ℕ) (s : List ℕ) where
     holding-ends past = walk-ends _ phrases s at w past
 
     module _ (points : Points) (entry : ReadEntry) (said : points ≡ pointsSaid (allEntries phrases s)) (here : at < length s) (is : entry ≡ nextAt (pointWidth phrases) s at) where
-      judged : (t : Bool) → entryHolds (isAddress items size) (isPoint phrases items size (points .letters)) (points .start) entry ≡ t
-          → pointHolds (isAddress items size) (isPoint phrases items size (length (orderList (allEntries phrases s) otherwise []))) (startPoint (allEntries phrases s) otherwise 0) (entryOf s at entry) ≡ t
+      judged : (t : Bool) → tested phrases items size points entry ≡ t → kept phrases items size (allEntries phrases s) (entryOf s at entry) ≡ t
       unfolding pointsSaid
       judged t h =
           holds-read _ _ _ s at entry
           ∙ ap₂ (λ (n k : ℕ). entryHolds (isAddress items size) (isPoint phrases items size n) k entry) (sym (ap (λ (p : Points). p .letters) said)) (sym (ap (λ (p : Points). p .start) said))
           ∙ h
 
-      pub holding-refuses : entryHolds (isAddress items size) (isPoint phrases items size (points .letters)) (points .start) entry ≡ false
+      pub holding-refuses : tested phrases items size points entry ≡ false
           → check.Refused 13 at ≡ checkAnswer (entriesHold phrases items size (allEntries phrases s))
       unfolding checkAnswer
       holding-refuses h =
           walk-meets _ phrases s at w entry here is
-          (λ rest m same. ap checkAnswer (sym (all-refuse (rule phrases items size s) (placed s at entry) rest 13 at (if-false _ _ _ (judged false h)))) ∙ same)
+          (λ rest m same. ap checkAnswer (sym (all-refuse (rule phrases items size (allEntries phrases s)) (placed s at entry) rest 13 at (if-false _ _ _ (judged false h)))) ∙ same)
 
-      pub holding-turns : (next : ℕ) → next ≡ endOf entry → entryHolds (isAddress items size) (isPoint phrases items size (points .letters)) (points .start) entry ≡ true
+      pub holding-turns : (next : ℕ) → next ≡ endOf entry → tested phrases items size points entry ≡ true
           → Holding phrases items size s next
       holding-turns next ends h =
           walk-turns _ phrases s at w entry here is next ends _
-          (λ rest m same. ap checkAnswer (sym (all-go-on (rule phrases items size s) (placed s at entry) rest (if-true _ _ _ (judged true h)))) ∙ same)
+          (λ rest m same. ap checkAnswer (sym (all-go-on (rule phrases items size (allEntries phrases s)) (placed s at entry) rest (if-true _ _ _ (judged true h)))) ∙ same)
 
 pub ruleset holding = (holding-starts, holding-ends, holding-refuses, holding-turns, walk-nears, flag-on, flag-off)
 

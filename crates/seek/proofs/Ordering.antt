@@ -8,7 +8,7 @@ use lib.ListN.{length, getD, set, length-set, replicate, length-replicate}
 use lib.Seq.{getD-set-same, getD-set-other}
 use native.Mathlib.Omega.{arith}
 use borrow.Author.Tests.{eq-eqb, ne-eqb, eqb-true, eqb-false, lt-ltb, le-ltb, ltb-false}
-use Rattle.model.specs.Words.{if_then_else_, _or_, _<?_, _≡?_, any, Placed, Checked, Checked.fine, Checked.refused, passed, Step.met, walkTo, inTurn}
+use Rattle.model.specs.Words.{if_then_else_, _or_, _<?_, _≡?_, any, Placed, Checked, Checked.refused, passed, Step.met, walkTo, inTurn}
 use Rattle.model.specs.Item.{checkAnswer}
 use Rattle.model.specs.Seek.{Entry, Entry.start, Entry.stop, Entry.phrase, Entry.order, isLetter, tag, rank, inOrder, entryStep, seekOf}
 use Rattle.model.specs.Track.{pointWidth}
@@ -17,7 +17,7 @@ use Rattle.model.specs.declared.ReadEntry.the-variants.{Start, Stop, Phrase, Or
 use Rattle.model.specs.declared.Check.{Check}
 use Rattle.model.specs.declared.Check.the-variants as check
 use Rattle.model.proofs.Tests.{by-test, if-true, if-false, is-on, is-off}
-use Rattle.model.proofs.Walks.{GoesOn, withFirst, Left, left-starts, left-ends, left-stuck, left-refused, left-next}
+use Rattle.model.proofs.Walks.{GoesOn, Left, left-starts, left-ends, left-stuck, left-refused, left-next}
 use Rattle.items.proofs.Setup.{answer-first}
 use Rattle.seek.specs.Next.{isRefused, endOf, nextAt, rankOf, slotOf}
 use Rattle.seek.proofs.Letters.{letter-least, letter-most}
