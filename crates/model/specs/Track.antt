@@ -40,15 +40,21 @@ isTrack id = (id / 256 ≡? MTR) or (id / 256 ≡? ATR) or (id / 256 ≡? GTR) o
 
 -- What is opened: score and PCM tracks of format 0. Score tracks of formats 1 and 2, and all other chunks, are closed leaves.
 -- An empty body, or another format, is refused with 8 at the body.
+unfoldable pub scoreVoice : List ℕ → ℕ → ℕ → Checked (Option Voice)
+scoreVoice s body size =
+    if (size ≡? 0) or (3 ≤? s ! body) then refused 8 body else
+    if s ! body ≡? 0 then fine (some Score) else
+    fine none
+
+unfoldable pub pcmVoice : List ℕ → ℕ → ℕ → Checked (Option Voice)
+pcmVoice s body size =
+    if (size ≡? 0) or (1 ≤? s ! body) then refused 8 body else
+    fine (some Pcm)
+
 unfoldable pub voiceOf : List ℕ → Chunk → Checked (Option Voice)
 voiceOf s chunk =
-    if chunk .id / 256 ≡? MTR then
-    (if (chunk .size ≡? 0) or (3 ≤? s ! bodyPlace chunk) then refused 8 (bodyPlace chunk) else
-    if s ! bodyPlace chunk ≡? 0 then fine (some Score) else
-    fine none) else
-    if chunk .id / 256 ≡? ATR then
-    (if (chunk .size ≡? 0) or (1 ≤? s ! bodyPlace chunk) then refused 8 (bodyPlace chunk) else
-    fine (some Pcm)) else
+    if chunk .id / 256 ≡? MTR then scoreVoice s (bodyPlace chunk) (chunk .size) else
+    if chunk .id / 256 ≡? ATR then pcmVoice s (bodyPlace chunk) (chunk .size) else
     fine none
 
 -- Fixed bytes: format, sequence type, then in a score time bases D and G and 2 bytes of channel status, in a PCM track 2 bytes of

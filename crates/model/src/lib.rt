@@ -194,6 +194,19 @@ pub enum ListOf {
     Track(Voice),
 }
 
+// Whether a chunk of the top level is opened, and in which voice.
+pub enum FoundVoice {
+    Opened(Voice),
+    Closed,
+    Refused { number: u32, place: usize },
+}
+
+// How many rows something brings.
+pub enum Counted {
+    Rows { count: usize },
+    Refused { number: u32, place: usize },
+}
+
 // The sub-chunks of a track that are read: its seek, setup and sequence chunk.
 pub enum Part {
     Seek,

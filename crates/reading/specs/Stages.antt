@@ -1,11 +1,20 @@
--- What the functions of this crate speak of beside the definitions of the model: the checks of a file from one of them on.
-use Prim.Native.Nat.{ℕ}
-use mathlib.Core.List.{List}
-use Rattle.model.specs.Words.{if_then_else_, Checked, Checked.fine, Checked.refused, passed, _>>_}
+-- What the functions of this crate speak of beside the definitions of the model: the checks of a file from one of them on, and how many
+-- rows what they accept brings.
+use Prim.Native.Nat.{ℕ, _+_}
+use mathlib.Core.List.{List, [], _∷_, map}
+use mathlib.Core.Option.{Option, none, some}
+use lib.ListN.{length}
+use Rattle.model.specs.Words.{if_then_else_, sum, Checked, Checked.fine, Checked.refused, passed, _>>_}
+use Rattle.model.specs.Bytes.{number}
 use Rattle.model.specs.Chunk.{Chunk}
 use Rattle.model.specs.Track.{hasOne}
-use Rattle.model.specs.File.{opensWithContents}
+use Rattle.model.specs.File.{Top, opensWithContents, partsOf}
+use Rattle.model.specs.declared.Voice.{Voice}
 use Rattle.model.specs.declared.Wanted.the-variants as wanted
+use Rattle.model.specs.declared.FoundVoice.{FoundVoice}
+use Rattle.model.specs.declared.FoundVoice.the-variants as voice
+use Rattle.model.specs.declared.Counted.{Counted}
+use Rattle.model.specs.declared.Counted.the-variants as counted
 
 -- the frame after its list: 5 and 7
 unfoldable pub contentsHold : ℕ → List Chunk → Checked (List Chunk)
@@ -13,3 +22,27 @@ contentsHold end chunks = do
   if opensWithContents chunks then passed else refused 5 8
   if hasOne wanted.Track chunks then passed else refused 7 end
   fine chunks
+
+-- the chunk at a place, whose body has a size
+abbrev pub placed : List ℕ → ℕ → ℕ → Chunk
+placed s place size = record { id = number 4 s place; place = place; size = size }
+
+unfoldable pub voiceAnswer : Checked (Option Voice) → FoundVoice
+voiceAnswer (fine none) = voice.Closed
+voiceAnswer (fine (some found)) = voice.Opened found
+voiceAnswer (refused number place) = voice.Refused number place
+
+-- a chunk of the top level brings its own row and those of its sub-chunks
+unfoldable pub topRows : Top → ℕ
+topRows top = 1 + length (partsOf top)
+
+unfoldable pub topsRows : List Top → ℕ
+topsRows tops = sum (map topRows tops)
+
+unfoldable pub topAnswer : Checked Top → Counted
+topAnswer (fine top) = counted.Rows (topRows top)
+topAnswer (refused number place) = counted.Refused number place
+
+unfoldable pub topsAnswer : Checked (List Top) → Counted
+topsAnswer (fine tops) = counted.Rows (topsRows tops)
+topsAnswer (refused number place) = counted.Refused number place

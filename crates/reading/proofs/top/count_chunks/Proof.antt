@@ -1,0 +1,63 @@
+use Rattle.reading.proofs.top.count_chunks.Statement.{statement}
+use Rattle.reading.proofs.top.count_chunks.Tie as tie
+use Rattle.reading.proofs.top.count_chunks.Reads as reads
+use Rattle.reading.proofs.top.count_chunks.Lts as lts
+use Rattle.chunks.proofs.read_chunk.Reads as read-chunk-reads
+
+abbrev Inv-loop : tie.InvT-loop
+Inv-loop s start end count₀ at₀ count at = ?
+
+abbrev μ-loop : tie.MeasureT-loop
+μ-loop s start end count₀ at₀ count at = ?
+
+-- src/top.rt:82:5
+loop-holds : tie.Need-loop-holds Inv-loop μ-loop
+loop-holds c = ?
+
+-- src/top.rt:87:13
+read-chunk-requires : tie.Need-read-chunk-requires Inv-loop μ-loop
+read-chunk-requires c κs = ?
+
+-- src/top.rt:86:13
+enum-known-next : tie.Need-enum-known-next Inv-loop μ-loop
+enum-known-next c = ?
+
+-- src/top.rt:88:13
+enum-told : tie.Need-enum-told Inv-loop μ-loop
+enum-told c = ?
+
+-- src/top.rt:88:13
+returns : tie.Need-returns Inv-loop μ-loop
+returns c = ?
+
+-- src/top.rt:90:9
+add-count : tie.Need-add-count Inv-loop μ-loop
+add-count c = ?
+
+-- src/top.rt:82:5
+loop-less : tie.Need-loop-less Inv-loop μ-loop
+loop-less c = ?
+
+-- src/top.rt:82:5
+loop-again : tie.Need-loop-again Inv-loop μ-loop
+loop-again c = ?
+
+-- src/top.rt:75:1
+returns-2 : tie.Need-returns-2 Inv-loop μ-loop
+returns-2 c = ?
+
+pub count-chunks-spec : {M : Type 1} → statement M
+count-chunks-spec =
+    tie.close
+    (tie.spec
+    Inv-loop
+    μ-loop
+    loop-holds
+    read-chunk-requires
+    enum-known-next
+    enum-told
+    returns
+    add-count
+    loop-less
+    loop-again
+    returns-2)

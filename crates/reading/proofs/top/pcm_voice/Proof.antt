@@ -1,0 +1,24 @@
+use borrow.Author.Needs.{needs}
+use Rattle.reading.proofs.top.pcm_voice.Statement.{statement}
+use Rattle.reading.proofs.top.pcm_voice.Tie as tie
+use Rattle.reading.proofs.top.pcm_voice.Reads as reads
+use Rattle.reading.proofs.top.pcm_voice.Lts as lts
+
+-- src/top.rt:47:9
+returns : tie.Need-returns
+returns c = ?
+
+-- src/top.rt:52:13
+shared-slice-read-if2 : tie.Need-shared-slice-read-if2
+shared-slice-read-if2 c = search needs
+
+-- src/top.rt:53:9
+returns-2 : tie.Need-returns-2
+returns-2 c = ?
+
+-- src/top.rt:42:1
+returns-3 : tie.Need-returns-3
+returns-3 c = ?
+
+pub pcm-voice-spec : {M : Type 1} → statement M
+pcm-voice-spec = tie.close (tie.spec returns shared-slice-read-if2 returns-2 returns-3)

@@ -1,0 +1,58 @@
+use borrow.Author.Needs.{needs}
+use Rattle.reading.proofs.top.voice_of.Statement.{statement}
+use Rattle.reading.proofs.top.voice_of.Tie as tie
+use Rattle.reading.proofs.top.voice_of.Reads as reads
+use Rattle.reading.proofs.top.voice_of.Lts as lts
+use Rattle.numbers.proofs.same_family.Reads as same-family-reads
+use Rattle.reading.proofs.top.pcm_voice.Reads as pcm-voice-reads
+use Rattle.reading.proofs.top.score_voice.Reads as score-voice-reads
+
+-- src/top.rt:65:8
+same-family-requires : tie.Need-same-family-requires
+same-family-requires c κs = search needs
+
+-- src/top.rt:66:31
+add-score-voice : tie.Need-add-score-voice
+add-score-voice c = search needs
+
+-- src/top.rt:66:9
+score-voice-requires : tie.Need-score-voice-requires
+score-voice-requires c κs = search needs
+
+-- src/top.rt:66:9
+returns : tie.Need-returns
+returns c = ?
+
+-- src/top.rt:68:8
+same-family-requires-2 : tie.Need-same-family-requires-2
+same-family-requires-2 c κs = search needs
+
+-- src/top.rt:69:29
+add-pcm-voice : tie.Need-add-pcm-voice
+add-pcm-voice c = search needs
+
+-- src/top.rt:69:9
+pcm-voice-requires : tie.Need-pcm-voice-requires
+pcm-voice-requires c κs = search needs
+
+-- src/top.rt:69:9
+returns-2 : tie.Need-returns-2
+returns-2 c = ?
+
+-- src/top.rt:61:1
+returns-3 : tie.Need-returns-3
+returns-3 c = ?
+
+pub voice-of-spec : {M : Type 1} → statement M
+voice-of-spec =
+    tie.close
+    (tie.spec
+    same-family-requires
+    add-score-voice
+    score-voice-requires
+    returns
+    same-family-requires-2
+    add-pcm-voice
+    pcm-voice-requires
+    returns-2
+    returns-3)
