@@ -48,7 +48,7 @@ checked-chunks allowed s start end chunks h e =
 
 -- what stands at a place is what is read there
 module _ (s : List ℕ) (end at : ℕ) (within : at ≤ end) where
-  none-left : (chunks : List Chunk) → Standing s end at chunks → end ≤ at → chunks ≡ []
+  pub none-left : (chunks : List Chunk) → Standing s end at chunks → end ≤ at → chunks ≡ []
   none-left [] st past = refl
   none-left (chunk ∷ rest) st past =
       let g : GoesOn end at (met chunk (st .0)) = subst (GoesOn end at) (st .1) (chunk-goes s end at within) in
@@ -60,7 +60,7 @@ module _ (s : List ℕ) (end at : ℕ) (within : at ≤ end) where
     stands j e = ap (chunkMet at) (sym is ∙ e)
 
     -- a chunk that is read is the first of those that are left
-    first-left : (chunks : List Chunk) (id size next : ℕ) → at < end → Standing s end at chunks → r ≡ Is id size next
+    pub first-left : (chunks : List Chunk) (id size next : ℕ) → at < end → Standing s end at chunks → r ≡ Is id size next
         → (rest : List Chunk) × (chunks ≡ record { id = id; place = at; size = size } ∷ rest) × Standing s end next rest
     unfolding chunkMet
     first-left [] id size next here st e = absurd (omega arith)
@@ -71,7 +71,7 @@ module _ (s : List ℕ) (end at : ℕ) (within : at ≤ end) where
         let on : st .0 ≡ next = cc in
         (rest, ap (λ (c : Chunk). c ∷ rest) same, subst (λ (n : ℕ). Standing s end n rest) on (st .2))
 
-    never-cut : (chunks : List Chunk) → at < end → Standing s end at chunks → r ≡ Cut → ⊥
+    pub never-cut : (chunks : List Chunk) → at < end → Standing s end at chunks → r ≡ Cut → ⊥
     unfolding chunkMet
     never-cut [] here st e = omega arith
     never-cut (chunk ∷ rest) here st e =

@@ -84,7 +84,8 @@ fn count_chunks(s: &[u8], start: usize, end: usize) -> usize
             id: _,
             size: _,
             next,
-        } = chunks::read_chunk(s, end, at) else {
+        } = chunks::read_chunk(s, end, at)
+        else {
             return count;
         };
         count += 1;

@@ -1,3 +1,6 @@
+use Rattle.reading.proofs.Tops.{voices}
+use Rattle.model.proofs.Tests.{is-on, is-off}
+use Rattle.model.specs.Track.{voiceOf}
 use borrow.Author.Needs.{needs}
 use Rattle.reading.proofs.top.voice_of.Statement.{statement}
 use Rattle.reading.proofs.top.voice_of.Tie as tie
@@ -21,7 +24,8 @@ score-voice-requires c κs = search needs
 
 -- src/top.rt:66:9
 returns : tie.Need-returns
-returns c = ?
+unfolding voiceOf
+returns c = search (voices, is-on, is-off) depth 9 fits 20000
 
 -- src/top.rt:68:8
 same-family-requires-2 : tie.Need-same-family-requires-2
@@ -37,11 +41,13 @@ pcm-voice-requires c κs = search needs
 
 -- src/top.rt:69:9
 returns-2 : tie.Need-returns-2
-returns-2 c = ?
+unfolding voiceOf
+returns-2 c = search (voices, is-on, is-off) depth 9 fits 20000
 
 -- src/top.rt:61:1
 returns-3 : tie.Need-returns-3
-returns-3 c = ?
+unfolding voiceOf
+returns-3 c = search (voices, is-on, is-off) depth 9 fits 20000
 
 pub voice-of-spec : {M : Type 1} → statement M
 voice-of-spec =
