@@ -1,6 +1,6 @@
 -- What the functions of this crate speak of beside the definitions of the model: the checks of a file from one of them on, and how many
 -- rows what they accept brings.
-use Prim.Native.Nat.{ℕ, _+_}
+use Prim.Native.Nat.{ℕ, _+_, _≤_}
 use mathlib.Core.List.{List, [], _∷_, map}
 use mathlib.Core.Option.{Option, none, some}
 use lib.ListN.{length}
@@ -46,3 +46,8 @@ topAnswer (refused number place) = counted.Refused number place
 unfoldable pub topsAnswer : Checked (List Top) → Counted
 topsAnswer (fine tops) = counted.Rows (topsRows tops)
 topsAnswer (refused number place) = counted.Refused number place
+
+-- a chunk of the top level brings no more rows than a file has bytes
+abbrev pub Few : Counted → Type 0
+Few (counted.Rows count) = count ≤ 65537
+Few (counted.Refused number place) = Unit

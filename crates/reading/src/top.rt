@@ -5,9 +5,10 @@ ghost use Prim.Native.Nat.{_+_, _≤_};
 ghost use lib.ListN.{length};
 ghost use Rattle.model.specs.Item.{isFine, found};
 ghost use Rattle.model.specs.Track.{scoreVoice, pcmVoice, voiceOf};
-ghost use Rattle.model.specs.File.{topOf};
+ghost use mathlib.Core.Option.{some};
+ghost use Rattle.model.specs.File.{opened, topOf};
 ghost use Rattle.chunks.specs.Kept.{chunksIn};
-ghost use Rattle.reading.specs.Stages.{placed, voiceAnswer, topAnswer};
+ghost use Rattle.reading.specs.Stages.{placed, voiceAnswer, topAnswer, Few};
 use model::Check;
 use model::Counted;
 use model::FoundVoice;
@@ -92,4 +93,32 @@ fn count_chunks(s: &[u8], start: usize, end: usize) -> usize
         at = next;
     }
     count
+}
+
+// A track that is opened in a voice.
+fn check_opened(voice: Voice, s: &[u8], place: usize, size: usize) -> Counted
+    requires { ⌜ place + 8 + size ≤ length (now s) ⌝ }
+    requires { ⌜ length (now s) ≤ 65536 ⌝ }
+    ensures { λ r. ⌜ r ≡ topAnswer (opened (now (s .entry)) (placed (now (s .entry)) place size) (some voice)) ⌝ }
+    ensures { λ r. ⌜ Few r ⌝ }
+{
+    match tracks::check_track(voice, s, place, size) {
+        Check::Refused { number, place } => Counted::Refused { number, place },
+        Check::Passed => Counted::Rows {
+            count: 1 + count_chunks(s, place + 8 + 6, place + 8 + size),
+        },
+    }
+}
+
+pub fn check_top(s: &[u8], place: usize, size: usize) -> Counted
+    requires { ⌜ place + 8 + size ≤ length (now s) ⌝ }
+    requires { ⌜ length (now s) ≤ 65536 ⌝ }
+    ensures { λ r. ⌜ r ≡ topAnswer (topOf (now (s .entry)) (placed (now (s .entry)) place size)) ⌝ }
+    ensures { λ r. ⌜ Few r ⌝ }
+{
+    match voice_of(s, place, size) {
+        FoundVoice::Refused { number, place } => Counted::Refused { number, place },
+        FoundVoice::Closed => Counted::Rows { count: 1 },
+        FoundVoice::Opened(voice) => check_opened(voice, s, place, size),
+    }
 }

@@ -6,3 +6,4 @@ mod track;
 
 pub use part::body_of;
 pub use part::find_part;
+pub use track::check_track;
