@@ -1,2 +1,3 @@
 pub mod Frames
-pub mod Tops
+pub mod OneTop
+pub mod AllTops

@@ -1,4 +1,4 @@
-use Rattle.reading.proofs.Tops.{opened-from, opened-fine, openings}
+use Rattle.reading.proofs.OneTop.{opened-from, opened-fine, openings}
 use borrow.Author.Needs.{needs}
 use Rattle.reading.proofs.top.check_opened.Statement.{statement}
 use Rattle.reading.proofs.top.check_opened.Tie as tie

@@ -1,4 +1,4 @@
-use Rattle.reading.proofs.Tops.{tops}
+use Rattle.reading.proofs.OneTop.{tops}
 use borrow.Author.Needs.{needs}
 use Rattle.reading.proofs.top.check_top.Statement.{statement}
 use Rattle.reading.proofs.top.check_top.Tie as tie

@@ -1,6 +1,6 @@
 use borrow.Author.Needs.{needs}
 use Prim.Native.Nat.{_-_}
-use Rattle.reading.proofs.Tops.{Counting, countings}
+use Rattle.reading.proofs.OneTop.{Counting, countings}
 use Rattle.reading.proofs.top.count_chunks.Statement.{statement}
 use Rattle.reading.proofs.top.count_chunks.Tie as tie
 use Rattle.reading.proofs.top.count_chunks.Reads as reads

@@ -1,4 +1,4 @@
-use Rattle.reading.proofs.Tops.{voices}
+use Rattle.reading.proofs.OneTop.{voices}
 use Rattle.model.proofs.Tests.{tests, first-true, second-true, neither-true}
 use Rattle.model.specs.Track.{scoreVoice}
 use borrow.Author.Needs.{needs}

@@ -1,4 +1,4 @@
-use Rattle.reading.proofs.Tops.{voices}
+use Rattle.reading.proofs.OneTop.{voices}
 use Rattle.model.proofs.Tests.{is-on, is-off}
 use Rattle.model.specs.Track.{voiceOf}
 use borrow.Author.Needs.{needs}
