@@ -1,2 +1,4 @@
 pub mod Sequence
 pub mod WrittenReads
+pub mod ReadWrites
+pub mod SameBytes
