@@ -3,6 +3,7 @@
 use Prim.Native.Nat.{ℕ, suc, _+_, _-_, _*_, _/_, _%_}
 use mathlib.Core.List.{List, [], _∷_, _++_}
 use mathlib.Core.Bool.{Bool, true, false, not}
+use mathlib.Core.Option.{Option, none, some}
 use lib.ListN.{length}
 use lib.Seq.{sets}
 use Rattle.model.specs.Words.{if_then_else_, _and_, _<?_, _≤?_, _≡?_, Checked, Checked.fine, Checked.refused, _>>=_}
@@ -18,6 +19,8 @@ use Rattle.model.specs.declared.Event.{Event}
 use Rattle.model.specs.declared.Event.the-variants.{Nop, Note, Wave, Control, Exclusive}
 use Rattle.model.specs.declared.Put.{Put}
 use Rattle.model.specs.declared.Put.the-variants.{Done, Full, Unfit}
+use Rattle.model.specs.declared.Wrote.{Wrote}
+use Rattle.model.specs.declared.Wrote.the-variants as wrote
 
 -- The numbers that an event of a voice can have: those that its reader gives.
 
@@ -83,3 +86,70 @@ memoryAfterPut memory at bytes Unfit = memory
 unfoldable pub putMemory : Voice → List ℕ → ℕ → Event → List ℕ → ℕ → List ℕ
 putMemory voice source duration event memory at =
     memoryAfterPut memory at (timedBytes source duration event) (putAnswer voice source duration event (length memory) at)
+
+-- A LIST OF ITEMS is given as two tables, of durations and of words; the shorter one counts.
+
+-- the fields of a word, as they are packed for a played row
+abbrev pub kindIn : ℕ → ℕ
+kindIn word = word / 0x8000000
+
+abbrev pub channelIn : ℕ → ℕ
+channelIn word = word / 0x2000000 % 4
+
+abbrev pub valueIn : ℕ → ℕ
+valueIn word = word / 0x20000 % 256
+
+abbrev pub gateIn : ℕ → ℕ
+gateIn word = word / 4 % 0x8000
+
+abbrev pub placeIn : ℕ → ℕ
+placeIn word = word / 0x800 % 0x10000
+
+abbrev pub sizeIn : ℕ → ℕ
+sizeIn word = word / 8 % 256
+
+-- the event that a word of a kind up to 14 says
+unfoldable pub eventIn : ℕ → Event
+eventIn word =
+    if kindIn word ≡? 0 then Nop else
+    if kindIn word ≡? 1 then Note (channelIn word) (valueIn word) (gateIn word) else
+    if kindIn word ≡? 2 then Wave (channelIn word) (valueIn word) (gateIn word) else
+    if kindIn word ≡? 14 then Exclusive (placeIn word) (sizeIn word) else
+    Control (kindIn word) (channelIn word) (valueIn word)
+
+unfoldable pub eventOfWord : ℕ → Option Event
+eventOfWord word = if kindIn word ≤? 14 then some (eventIn word) else none
+
+-- the item of a duration and what a word says, where it can be written
+unfoldable pub itemOf : Voice → List ℕ → ℕ → Option Event → Option (Item Content)
+itemOf voice source duration none = none
+itemOf voice source duration (some event) =
+    if (duration ≤? longestDuration) and eventFits voice source event then some (timed duration (contentOf source event)) else none
+
+-- The items to be written, the end mark the last of them; or the index of the first that cannot be.
+pub data Sequence : Type 0 where
+  items : List (Item Content) → Sequence
+  unfitAt : ℕ → Sequence
+
+unfoldable pub withItem : Option (Item Content) → Sequence → Sequence
+withItem none rest = unfitAt 0
+withItem (some item) (items rest) = items (item ∷ rest)
+withItem (some item) (unfitAt index) = unfitAt (suc index)
+
+unfoldable pub sequenceOf : Voice → List ℕ → List ℕ → List ℕ → Sequence
+sequenceOf voice source [] words = items (endMark ∷ [])
+sequenceOf voice source (duration ∷ durations) [] = items (endMark ∷ [])
+sequenceOf voice source (duration ∷ durations) (word ∷ words) =
+    withItem (itemOf voice source duration (eventOfWord word)) (sequenceOf voice source durations words)
+
+-- A sequence is written from the head of lent memory on, where there is room for all of it.
+
+unfoldable pub wroteAnswer : ℕ → Sequence → Wrote
+wroteAnswer room (items all) =
+    if room <? length (bytesOf handyPhone all) then wrote.Full else wrote.Bytes (length (bytesOf handyPhone all))
+wroteAnswer room (unfitAt index) = wrote.Unfit index
+
+unfoldable pub memoryAfterWrite : List ℕ → Sequence → List ℕ
+memoryAfterWrite memory (items all) =
+    if length memory <? length (bytesOf handyPhone all) then memory else sets memory 0 (bytesOf handyPhone all)
+memoryAfterWrite memory (unfitAt index) = memory
