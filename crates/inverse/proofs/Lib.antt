@@ -2,3 +2,4 @@ pub mod Sequence
 pub mod WrittenReads
 pub mod ReadWrites
 pub mod SameBytes
+pub mod ItemsBack

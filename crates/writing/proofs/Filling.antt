@@ -18,7 +18,7 @@ use Rattle.model.specs.Writing.{eventOfWord, itemOf, Sequence, Sequence.items, 
 use Rattle.model.specs.declared.Voice.{Voice}
 use Rattle.writing.specs.Parts.{givenBytes, sequenceBytes, Holds}
 use Rattle.writing.proofs.Stores.{sets-append}
-use Rattle.writing.proofs.Listed.{listed-next, listed-over}
+use Rattle.writing.proofs.Listed.{with-item, listed-next, listed-over}
 
 pub record Filling (voice : Voice) (s durations words l out : List ℕ) (at i : ℕ) : Type 0 where
   pub rest : List (Item Content)
@@ -31,14 +31,6 @@ pub record Filling (voice : Voice) (s durations words l out : List ℕ) (at i : 
 held : (room : ℕ) (q : Sequence) → Holds room q → (rest : List (Item Content)) × (q ≡ items rest) × (length (bytesOf handyPhone rest) ≤ room)
 held room (items rest) h = (rest, refl, h)
 held room (unfitAt index) h = absurd h
-
--- the first item of a sequence that can be written
-with-item : (found : Option (Item Content)) (q : Sequence) (all : List (Item Content)) → withItem found q ≡ items all
-    → (item : Item Content) × (rest : List (Item Content)) × (found ≡ some item) × (q ≡ items rest) × (all ≡ item ∷ rest)
-unfolding withItem
-with-item none q all e = let z : _≡_ {A = ℕ} 0 1 = cc in absurd (omega arith)
-with-item (some item) (items rest) all e = (item, rest, refl, refl, cc)
-with-item (some item) (unfitAt index) all e = let z : _≡_ {A = ℕ} 0 1 = cc in absurd (omega arith)
 
 only : (all : List (Item Content)) → items (endMark ∷ []) ≡ items all → all ≡ endMark ∷ []
 only all e = cc

@@ -113,6 +113,14 @@ module _ (voice : Voice) (s : List ℕ) (duration word : ℕ) (there : isSome (i
 
 pub ruleset given-parts = (given-short, given-fits, given-room, given-next, given-wrote)
 
+-- the first item of a sequence that can be written
+pub with-item : (found : Option (Item Content)) (q : Sequence) (all : List (Item Content)) → withItem found q ≡ items all
+    → (item : Item Content) × (rest : List (Item Content)) × (found ≡ some item) × (q ≡ items rest) × (all ≡ item ∷ rest)
+unfolding withItem
+with-item none q all e = let z : _≡_ {A = ℕ} 0 1 = cc in absurd (omega arith)
+with-item (some item) (items rest) all e = (item, rest, refl, refl, cc)
+with-item (some item) (unfitAt index) all e = let z : _≡_ {A = ℕ} 0 1 = cc in absurd (omega arith)
+
 -- the items from an index on
 module _ (voice : Voice) (s : List ℕ) where
   no-words : (durations : List ℕ) → sequenceOf voice s durations [] ≡ items (endMark ∷ [])
