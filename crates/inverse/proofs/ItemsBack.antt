@@ -1,11 +1,10 @@
 -- Demand 2, "a written sequence reads back as exactly the items it was written from", for a list of items that `write_items` wrote into
 -- lent memory: the bytes that it reports are a body, and its items are those of the list and the end mark.
 use Prim.Native.Nat.{ℕ, _<_, _≤_}
-use mathlib.Core.Bool.{true}
 use mathlib.Core.List.{List, [], _∷_}
 use mathlib.Core.Option.{some}
 use mathlib.Core.Path.{_≡_, refl, sym, _∙_, ap, subst}
-use lib.ListN.{length, take, drop}
+use lib.ListN.{length, take}
 use lib.Seq.{sets, sets-eq, take-at}
 use native.Mathlib.Omega.{arith}
 use borrow.Author.Tests.{le-leb}
@@ -13,14 +12,14 @@ use Rattle.model.specs.Words.{_≤?_, isSome, Placed, Checked.fine}
 use Rattle.model.specs.Item.{Item, Item.timed, Item.endMark, bodyOf}
 use Rattle.model.specs.Plain.{bytesOf}
 use Rattle.model.specs.Content.{Content, contentOf, contentsIn, handyPhone}
-use Rattle.model.specs.Writing.{itemFits, kindIn, eventIn, eventOfWord, itemOf, Sequence.items, sequenceOf, wroteAnswer, memoryAfterWrite}
+use Rattle.model.specs.Writing.{itemFits, eventIn, eventOfWord, itemOf, Sequence.items, sequenceOf, wroteAnswer, memoryAfterWrite}
 use Rattle.model.specs.declared.Voice.{Voice}
 use Rattle.model.specs.declared.Event.{Event}
 use Rattle.model.specs.declared.Wrote.the-variants.{Bytes}
 use Rattle.model.proofs.Tests.{if-all, both-true}
 use Rattle.writing.proofs.ContentFits.{HasBytes, content-fits}
 use Rattle.writing.proofs.Listed.{with-item, given}
-use Rattle.writing.proofs.Answers.{Fills, fills, filled-memory}
+use Rattle.writing.proofs.Answers.{fills, filled-memory}
 use Rattle.inverse.proofs.Sequence.{AllFit, MarkLast}
 use Rattle.inverse.proofs.WrittenReads.{sequence-reads}
 

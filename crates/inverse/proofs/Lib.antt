@@ -3,3 +3,4 @@ pub mod WrittenReads
 pub mod ReadWrites
 pub mod SameBytes
 pub mod ItemsBack
+pub mod WordBack

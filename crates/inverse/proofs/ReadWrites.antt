@@ -1,15 +1,15 @@
 -- Demand 2, "a written sequence reads back as exactly the items it was written from", the other way round: the items of a body that reads
 -- are a sequence, and its bytes are the body's.
-use Prim.Native.Nat.{ℕ, _+_, _-_, _<_, _≤_}
+use Prim.Native.Nat.{ℕ, _+_, _-_, _<_}
 use mathlib.Core.List.{List, [], _∷_, _++_}
 use mathlib.Core.Path.{_≡_, refl, sym, _∙_, ap, ap₂}
 use lib.ListN.{length, drop, take-append-drop}
 use lib.Seq.{drop-length, drop-drop}
 use native.Mathlib.Omega.{arith}
 use Rattle.model.specs.Words.{Placed, Checked.fine, Step.met}
-use Rattle.model.specs.Bytes.{_!_, part}
+use Rattle.model.specs.Bytes.{_!_}
 use Rattle.model.specs.Item.{Item, Item.timed, Item.endMark, itemAt, itemMet, itemStep, bodyOf}
-use Rattle.model.specs.Plain.{itemBytes, bytesOf}
+use Rattle.model.specs.Plain.{bytesOf}
 use Rattle.model.specs.Content.{contentIn, contentsIn, handyPhone}
 use Rattle.model.specs.declared.Voice.{Voice}
 use Rattle.model.specs.declared.Event.{Event}

@@ -5,7 +5,7 @@ use mathlib.Core.Bool.{true, false}
 use mathlib.Core.List.{List, [], _∷_}
 use mathlib.Core.Path.{_≡_, refl, sym, _∙_, ap}
 use native.Mathlib.Omega.{arith}
-use Rattle.model.specs.Words.{Placed, Checked, passed}
+use Rattle.model.specs.Words.{Placed}
 use Rattle.model.specs.Item.{Item, Item.timed, Item.endMark, isMark, afterEndMark, notAfterEndMark}
 use Rattle.model.specs.Content.{Content, contentIn, contentsIn}
 use Rattle.model.specs.Writing.{itemFits}
@@ -28,7 +28,8 @@ Items = List (Placed (Item Event))
 
 module _ (s : List ℕ) where
   -- the check passes from an item on, by what the item is
-  passed-by : (item : Placed (Item Event)) (rest before : Items) → (afterEndMark (item ∷ before) ≡ false → MarkLast (contentsIn s rest) → Pass notAfterEndMark (item ∷ before) rest)
+  passed-by : (item : Placed (Item Event)) (rest before : Items)
+      → (afterEndMark (item ∷ before) ≡ false → MarkLast (contentsIn s rest) → Pass notAfterEndMark (item ∷ before) rest)
       → (what : Item Event) → item .what ≡ what → MarkLast (contentIn s what ∷ contentsIn s rest) → Pass notAfterEndMark (item ∷ before) rest
   unfolding contentsIn contentIn afterEndMark isMark
   passed-by item rest before on (timed duration event) e m = on (ap isMark e) m

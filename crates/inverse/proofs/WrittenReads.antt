@@ -15,7 +15,7 @@ use Rattle.model.specs.declared.Event.{Event}
 use Rattle.model.proofs.Walks.{GoesOn, Stand}
 use Rattle.items.proofs.Ahead.{item-goes}
 use Rattle.items.proofs.Standing.{body-reads-to}
-use Rattle.writing.proofs.Stands.{Stands, stands-first, stands-second, stands-here, stands-between}
+use Rattle.writing.proofs.Stands.{Stands, stands-first, stands-second, stands-between}
 use Rattle.writing.proofs.ReadBack.{Reads, stands-reads}
 use Rattle.inverse.proofs.Sequence.{AllFit, MarkLast, marked-passes}
 
@@ -31,7 +31,8 @@ module _ (voice : Voice) (s : List ℕ) where
       (record { place = at; what = timed duration (r .read) }, ap (itemMet at) (r .given), ap (timed duration) (r .same))
   meets at endMark r = (record { place = at; what = endMark }, ap (itemMet at) r, refl)
 
-  all-meet : (items : List (Item Content)) (at : ℕ) → AllFit voice items → Stands s at (bytesOf handyPhone items) → at + length (bytesOf handyPhone items) ≡ length s
+  all-meet : (items : List (Item Content)) (at : ℕ) → AllFit voice items → Stands s at (bytesOf handyPhone items)
+      → at + length (bytesOf handyPhone items) ≡ length s
       → (placed : Items) × Stand (length s) (itemStep voice s) at placed × (contentsIn s placed ≡ items)
   unfolding bytesOf contentsIn
   all-meet [] at fit st ends = ([], sym (add-zero at) ∙ ends, refl)
@@ -55,4 +56,5 @@ sequence-reads voice items some fit marked =
     let all = all-meet voice s items 0 fit (subst (λ (t : List ℕ). Stands t 0 s) (append-nil s) (stands-between [] s [])) (omega arith) in
     let same = all .2 in
     let many : length (all .0) ≡ length items = sym (length-map (all .0) _) ∙ ap length same in
-    (all .0, body-reads-to voice s (all .0) (some-bytes voice s (all .0) (omega arith) (all .1)) (all .1) (marked-passes s (all .0) [] refl (subst MarkLast (sym same) marked)), same)
+    let passes = marked-passes s (all .0) [] refl (subst MarkLast (sym same) marked) in
+    (all .0, body-reads-to voice s (all .0) (some-bytes voice s (all .0) (omega arith) (all .1)) (all .1) passes, same)

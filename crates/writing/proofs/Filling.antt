@@ -3,8 +3,8 @@
 use Prim.Native.Nat.{ℕ, _+_, _<_, _≤_, min}
 use mathlib.Core.Bool.{true}
 use mathlib.Core.List.{List, [], _∷_, _++_}
-use mathlib.Core.Option.{Option, none, some}
-use mathlib.Core.Path.{_≡_, refl, sym, _∙_, ap, subst}
+use mathlib.Core.Option.{Option, some}
+use mathlib.Core.Path.{_≡_, refl, sym, _∙_, ap}
 use lib.ListN.{length, drop, length-append}
 use lib.Seq.{sets}
 use native.Mathlib.Nat.{zero-add}
@@ -14,7 +14,7 @@ use Rattle.model.specs.Bytes.{_!_}
 use Rattle.model.specs.Item.{Item, Item.endMark}
 use Rattle.model.specs.Plain.{itemBytes, bytesOf}
 use Rattle.model.specs.Content.{Content, handyPhone}
-use Rattle.model.specs.Writing.{eventOfWord, itemOf, Sequence, Sequence.items, Sequence.unfitAt, withItem, sequenceOf}
+use Rattle.model.specs.Writing.{eventOfWord, itemOf, Sequence, Sequence.items, Sequence.unfitAt, sequenceOf}
 use Rattle.model.specs.declared.Voice.{Voice}
 use Rattle.writing.specs.Parts.{givenBytes, sequenceBytes, Holds}
 use Rattle.writing.proofs.Stores.{sets-append}
