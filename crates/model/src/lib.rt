@@ -227,6 +227,14 @@ pub enum Put {
     Unfit,
 }
 
+// A list of items written into lent memory: so many bytes; or nothing written, for want of room or because of the item at an index, the
+// first that is no item of the voice.
+pub enum Wrote {
+    Bytes { length: usize },
+    Full,
+    Unfit { index: usize },
+}
+
 // The answer to a read: so many rows, the computed check code and whether the file holds it.
 pub enum ReadAnswer {
     Rows {

@@ -21,7 +21,7 @@ use Rattle.writing.specs.Parts.{eventSize}
 use Rattle.writing.proofs.Stores.{sets-append}
 use Rattle.writing.proofs.Contents.{event-length}
 
-timed-length : (s : List ℕ) (duration : ℕ) (event : Event)
+pub timed-length : (s : List ℕ) (duration : ℕ) (event : Event)
     → length (timedBytes s duration event) ≡ length (durationBytes duration) + length (contentBytes (contentOf s event))
 unfolding timedBytes itemBytes
 timed-length s duration event = length-append (durationBytes duration) (contentBytes (contentOf s event))

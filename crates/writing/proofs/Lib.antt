@@ -1,5 +1,7 @@
+pub mod Answers
 pub mod Below
 pub mod Cases
+pub mod Checking
 pub mod Codes
 pub mod ContentFits
 pub mod Contents
@@ -7,7 +9,9 @@ pub mod Durations
 pub mod EventBack
 pub mod EventStands
 pub mod Events
+pub mod Filling
 pub mod Items
+pub mod Listed
 pub mod NoMark
 pub mod Numbers
 pub mod PutBack

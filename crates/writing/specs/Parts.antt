@@ -1,10 +1,16 @@
--- What the writers of an event ask of its numbers, the bytes of each kind of event, and how many bytes an event takes.
+-- What the writers of an event ask of its numbers, the bytes of each kind of event, and how many bytes an event takes; the same of a
+-- whole sequence.
 use Prim.Native.Nat.{ℕ, _+_, _*_, _≤_, _<_}
-use mathlib.Core.List.{List, _∷_}
+use mathlib.Core.List.{List, [], _∷_}
+use mathlib.Core.Option.{Option, none, some}
 use lib.ListN.{length}
 use Rattle.model.specs.Words.{if_then_else_, _<?_}
 use Rattle.model.specs.Bytes.{part}
 use Rattle.model.specs.Duration.{durationBytes}
+use Rattle.model.specs.Item.{Item}
+use Rattle.model.specs.Plain.{itemBytes, bytesOf}
+use Rattle.model.specs.Content.{Content, handyPhone}
+use Rattle.model.specs.Writing.{Sequence, Sequence.items, Sequence.unfitAt}
 use Rattle.model.specs.declared.Event.{Event}
 use Rattle.model.specs.declared.Event.the-variants.{Nop, Note, Wave, Control, Exclusive}
 
@@ -32,3 +38,17 @@ eventSize (Note channel key gate) = 1 + length (durationBytes gate)
 eventSize (Wave channel number gate) = 1 + length (durationBytes gate)
 eventSize (Control kind channel value) = if kind <? 11 then 3 else 2
 eventSize (Exclusive place size) = 3 + size
+
+-- none for what is no item
+unfoldable pub givenBytes : Option (Item Content) → List ℕ
+givenBytes none = []
+givenBytes (some item) = itemBytes handyPhone item
+
+unfoldable pub sequenceBytes : Sequence → List ℕ
+sequenceBytes (items all) = bytesOf handyPhone all
+sequenceBytes (unfitAt index) = []
+
+-- a room holds a sequence that can be written
+abbrev pub Holds : ℕ → Sequence → Type 0
+Holds room (items all) = length (bytesOf handyPhone all) ≤ room
+Holds room (unfitAt index) = ⊥

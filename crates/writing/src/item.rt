@@ -24,7 +24,7 @@ pub fn item_size(duration: u32, event: Event) -> usize
 }
 
 // An item that can be written, at a place with room for it. Returns the place after it.
-fn write_item(
+pub fn write_item(
     voice: Voice,
     source: &[u8],
     duration: u32,

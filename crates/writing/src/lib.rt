@@ -5,6 +5,7 @@ mod duration;
 mod event;
 mod fits;
 mod item;
+mod list;
 
 pub use duration::duration_size;
 pub use duration::write_duration;
@@ -13,3 +14,4 @@ pub use event::write_event;
 pub use fits::event_fits;
 pub use item::item_size;
 pub use item::put_item;
+pub use list::write_items;

@@ -1,0 +1,51 @@
+-- Demand 2: the word of an event, as a played row has it, says that event to the writer, so that what was played can be written as it
+-- stands in the table.
+use Prim.Native.Nat.{_<_, _≤_}
+use mathlib.Core.Option.{some}
+use mathlib.Core.Path.{_≡_, refl}
+use native.Mathlib.Omega.{arith}
+use borrow.Author.Tests.{le-leb, ne-eqb}
+use Rattle.model.specs.Words.{if_then_else_}
+use Rattle.model.specs.Word.{packed, packedExclusive, wordOf}
+use Rattle.model.specs.Writing.{kindIn, channelIn, valueIn, gateIn, placeIn, sizeIn, eventIn, eventOfWord}
+use Rattle.model.specs.declared.Event.{Event}
+use Rattle.model.specs.declared.Event.the-variants.{Nop, Note, Wave, Control, Exclusive}
+
+-- the numbers that a word has the bits for
+abbrev pub InWord : Event → Type 0
+InWord Nop = Unit
+InWord (Note channel key gate) = (channel < 4) × (key < 256) × (gate < 32768)
+InWord (Wave channel number gate) = (channel < 4) × (number < 256) × (gate < 32768)
+InWord (Control kind channel value) = (3 ≤ kind) × (kind < 14) × (channel < 4) × (value < 256)
+InWord (Exclusive place size) = (place < 65536) × (size < 256)
+
+pub word-back : (event : Event) → InWord event → eventOfWord (wordOf event) ≡ some event
+unfolding wordOf eventOfWord eventIn if_then_else_
+word-back Nop h = refl
+word-back (Note channel key gate) h =
+    let k : kindIn (packed 1 channel key gate) ≡ 1 = omega arith in
+    let c : channelIn (packed 1 channel key gate) ≡ channel = omega arith in
+    let v : valueIn (packed 1 channel key gate) ≡ key = omega arith in
+    let g : gateIn (packed 1 channel key gate) ≡ gate = omega arith in
+    simp (k, c, v, g)
+word-back (Wave channel number gate) h =
+    let k : kindIn (packed 2 channel number gate) ≡ 2 = omega arith in
+    let c : channelIn (packed 2 channel number gate) ≡ channel = omega arith in
+    let v : valueIn (packed 2 channel number gate) ≡ number = omega arith in
+    let g : gateIn (packed 2 channel number gate) ≡ gate = omega arith in
+    simp (k, c, v, g)
+word-back (Control kind channel value) h =
+    let k : kindIn (packed kind channel value 0) ≡ kind = omega arith in
+    let c : channelIn (packed kind channel value 0) ≡ channel = omega arith in
+    let v : valueIn (packed kind channel value 0) ≡ value = omega arith in
+    let few : kind ≤ 14 = omega arith in
+    let n0 : kind ≡ 0 → ⊥ = λ e. omega arith in
+    let n1 : kind ≡ 1 → ⊥ = λ e. omega arith in
+    let n2 : kind ≡ 2 → ⊥ = λ e. omega arith in
+    let n14 : kind ≡ 14 → ⊥ = λ e. omega arith in
+    simp (k, c, v, le-leb, ne-eqb)
+word-back (Exclusive place size) h =
+    let k : kindIn (packedExclusive place size) ≡ 14 = omega arith in
+    let p : placeIn (packedExclusive place size) ≡ place = omega arith in
+    let n : sizeIn (packedExclusive place size) ≡ size = omega arith in
+    simp (k, p, n)
