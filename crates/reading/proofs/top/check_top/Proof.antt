@@ -1,41 +1,30 @@
+-- `reading::top::check_top` meets its contract.
 use Rattle.reading.proofs.OneTop.{tops}
 use borrow.Author.Needs.{needs}
 use Rattle.reading.proofs.top.check_top.Statement.{statement}
 use Rattle.reading.proofs.top.check_top.Tie as tie
-use Rattle.reading.proofs.top.check_top.Reads as reads
-use Rattle.reading.proofs.top.check_top.Lts as lts
-use Rattle.reading.proofs.top.check_opened.Reads as check-opened-reads
-use Rattle.reading.proofs.top.voice_of.Reads as voice-of-reads
 
--- src/top.rt:119:11
 voice-of-requires : tie.Need-voice-of-requires
 voice-of-requires c κs = search needs
 
--- src/top.rt:120:31
 enum-known-number : tie.Need-enum-known-number
 enum-known-number c = search needs
 
--- src/top.rt:121:31
 enum-told : tie.Need-enum-told
 enum-told c = search needs
 
--- src/top.rt:122:28
 enum-known-voice : tie.Need-enum-known-voice
 enum-known-voice c = search needs
 
--- src/top.rt:122:38
 check-opened-requires : tie.Need-check-opened-requires
 check-opened-requires c κs = search needs
 
--- src/top.rt:113:1
 returns : tie.Need-returns
 returns c = (search tops, search needs)
 
--- src/top.rt:113:1
 returns-2 : tie.Need-returns-2
 returns-2 c = (search tops, search needs)
 
--- src/top.rt:113:1
 returns-3 : tie.Need-returns-3
 returns-3 c = (search tops, search needs)
 

@@ -1,11 +1,9 @@
+-- `reading::top::count_chunks` meets its contract.
 use borrow.Author.Needs.{needs}
 use Prim.Native.Nat.{_-_}
 use Rattle.reading.proofs.OneTop.{Counting, countings}
 use Rattle.reading.proofs.top.count_chunks.Statement.{statement}
 use Rattle.reading.proofs.top.count_chunks.Tie as tie
-use Rattle.reading.proofs.top.count_chunks.Reads as reads
-use Rattle.reading.proofs.top.count_chunks.Lts as lts
-use Rattle.chunks.proofs.read_chunk.Reads as read-chunk-reads
 
 abbrev Inv-loop : tie.InvT-loop
 Inv-loop s start end count₀ at₀ count at = Counting s start end count at
@@ -13,39 +11,30 @@ Inv-loop s start end count₀ at₀ count at = Counting s start end count at
 abbrev μ-loop : tie.MeasureT-loop
 μ-loop s start end count₀ at₀ count at = end - at
 
--- src/top.rt:82:5
 loop-holds : tie.Need-loop-holds Inv-loop μ-loop
 loop-holds c = search (needs, countings)
 
--- src/top.rt:87:13
 read-chunk-requires : tie.Need-read-chunk-requires Inv-loop μ-loop
 read-chunk-requires c κs = search (needs, countings)
 
--- src/top.rt:86:13
 enum-known-next : tie.Need-enum-known-next Inv-loop μ-loop
 enum-known-next c = search (needs, countings)
 
--- src/top.rt:88:13
 enum-told : tie.Need-enum-told Inv-loop μ-loop
 enum-told c = search (needs, countings)
 
--- src/top.rt:88:13
 returns : tie.Need-returns Inv-loop μ-loop
 returns c = search (needs, countings)
 
--- src/top.rt:90:9
 add-count : tie.Need-add-count Inv-loop μ-loop
 add-count c = search (needs, countings)
 
--- src/top.rt:82:5
 loop-less : tie.Need-loop-less Inv-loop μ-loop
 loop-less c = search (needs, countings)
 
--- src/top.rt:82:5
 loop-again : tie.Need-loop-again Inv-loop μ-loop
 loop-again c = search (needs, countings)
 
--- src/top.rt:75:1
 returns-2 : tie.Need-returns-2 Inv-loop μ-loop
 returns-2 c = search (needs, countings)
 

@@ -1,27 +1,22 @@
+-- `reading::top::pcm_voice` meets its contract.
 use Rattle.reading.proofs.OneTop.{voices}
 use Rattle.model.proofs.Tests.{tests, first-true, second-true, neither-true}
 use Rattle.model.specs.Track.{pcmVoice}
 use borrow.Author.Needs.{needs}
 use Rattle.reading.proofs.top.pcm_voice.Statement.{statement}
 use Rattle.reading.proofs.top.pcm_voice.Tie as tie
-use Rattle.reading.proofs.top.pcm_voice.Reads as reads
-use Rattle.reading.proofs.top.pcm_voice.Lts as lts
 
--- src/top.rt:47:9
 returns : tie.Need-returns
 unfolding pcmVoice
 returns c = search (voices, tests, first-true, second-true, neither-true) depth 9 fits 20000
 
--- src/top.rt:52:13
 shared-slice-read-if2 : tie.Need-shared-slice-read-if2
 shared-slice-read-if2 c = search needs
 
--- src/top.rt:53:9
 returns-2 : tie.Need-returns-2
 unfolding pcmVoice
 returns-2 c = search (voices, tests, first-true, second-true, neither-true) depth 9 fits 20000
 
--- src/top.rt:42:1
 returns-3 : tie.Need-returns-3
 unfolding pcmVoice
 returns-3 c = search (voices, tests, first-true, second-true, neither-true) depth 9 fits 20000

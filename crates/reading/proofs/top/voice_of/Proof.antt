@@ -1,50 +1,37 @@
+-- `reading::top::voice_of` meets its contract.
 use Rattle.reading.proofs.OneTop.{voices}
 use Rattle.model.proofs.Tests.{is-on, is-off}
 use Rattle.model.specs.Track.{voiceOf}
 use borrow.Author.Needs.{needs}
 use Rattle.reading.proofs.top.voice_of.Statement.{statement}
 use Rattle.reading.proofs.top.voice_of.Tie as tie
-use Rattle.reading.proofs.top.voice_of.Reads as reads
-use Rattle.reading.proofs.top.voice_of.Lts as lts
-use Rattle.numbers.proofs.same_family.Reads as same-family-reads
-use Rattle.reading.proofs.top.pcm_voice.Reads as pcm-voice-reads
-use Rattle.reading.proofs.top.score_voice.Reads as score-voice-reads
 
--- src/top.rt:65:8
 same-family-requires : tie.Need-same-family-requires
 same-family-requires c κs = search needs
 
--- src/top.rt:66:31
 add-score-voice : tie.Need-add-score-voice
 add-score-voice c = search needs
 
--- src/top.rt:66:9
 score-voice-requires : tie.Need-score-voice-requires
 score-voice-requires c κs = search needs
 
--- src/top.rt:66:9
 returns : tie.Need-returns
 unfolding voiceOf
 returns c = search (voices, is-on, is-off) depth 9 fits 20000
 
--- src/top.rt:68:8
 same-family-requires-2 : tie.Need-same-family-requires-2
 same-family-requires-2 c κs = search needs
 
--- src/top.rt:69:29
 add-pcm-voice : tie.Need-add-pcm-voice
 add-pcm-voice c = search needs
 
--- src/top.rt:69:9
 pcm-voice-requires : tie.Need-pcm-voice-requires
 pcm-voice-requires c κs = search needs
 
--- src/top.rt:69:9
 returns-2 : tie.Need-returns-2
 unfolding voiceOf
 returns-2 c = search (voices, is-on, is-off) depth 9 fits 20000
 
--- src/top.rt:61:1
 returns-3 : tie.Need-returns-3
 unfolding voiceOf
 returns-3 c = search (voices, is-on, is-off) depth 9 fits 20000
