@@ -83,6 +83,9 @@ tops-start s start end h inside small ok =
     }
 
 module _ (s : List ℕ) (start end rows at : ℕ) (t : Topping s start end rows at) where
+  pub tops-countable : rows ≤ 4295032832
+  tops-countable = omega (arith, t .few, t .within, t .inside, t .small)
+
   pub tops-end : end ≤ at → counted.Rows rows ≡ topsAnswer (each (topOf s) (found (chunksIn s start end)))
   unfolding each
   tops-end past =

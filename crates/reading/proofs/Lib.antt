@@ -1,3 +1,4 @@
 pub mod Frames
 pub mod OneTop
 pub mod AllTops
+pub mod Files

@@ -104,17 +104,17 @@ pub ruleset countings = (count-starts, count-ends, count-low, count-never, count
 
 -- what a row of checks that passes has passed
 
-then-fine : {A B : Type 0} (c : Checked A) (rest : Checked B) (b : B) → (c >> rest) ≡ fine b → isFine c ≡ true × (rest ≡ fine b)
+pub then-fine : {A B : Type 0} (c : Checked A) (rest : Checked B) (b : B) → (c >> rest) ≡ fine b → isFine c ≡ true × (rest ≡ fine b)
 unfolding _>>_ isFine
 then-fine (fine a) rest b e = (refl, e)
 then-fine (refused n p) rest b e = let z : _≡_ {A = ℕ} 0 1 = cc in absurd (omega arith)
 
-fine-some : {A : Type 0} (c : Checked A) → isFine c ≡ true → (a : A) × (c ≡ fine a)
+pub fine-some : {A : Type 0} (c : Checked A) → isFine c ≡ true → (a : A) × (c ≡ fine a)
 unfolding isFine
 fine-some (fine a) h = (a, refl)
 fine-some (refused n p) h = absurd (false≢true h)
 
-bind-fine : {A B : Type 0} (c : Checked A) (rest : A → Checked B) (b : B) → (c >>= rest) ≡ fine b → (a : A) × (c ≡ fine a) × (rest a ≡ fine b)
+pub bind-fine : {A B : Type 0} (c : Checked A) (rest : A → Checked B) (b : B) → (c >>= rest) ≡ fine b → (a : A) × (c ≡ fine a) × (rest a ≡ fine b)
 unfolding _>>=_
 bind-fine (fine a) rest b e = (a, refl, e)
 bind-fine (refused n p) rest b e = let z : _≡_ {A = ℕ} 0 1 = cc in absurd (omega arith)

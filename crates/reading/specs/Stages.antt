@@ -8,7 +8,7 @@ use Rattle.model.specs.Words.{if_then_else_, sum, Checked, Checked.fine, Checke
 use Rattle.model.specs.Bytes.{number}
 use Rattle.model.specs.Chunk.{Chunk}
 use Rattle.model.specs.Track.{hasOne}
-use Rattle.model.specs.File.{Top, opensWithContents, partsOf}
+use Rattle.model.specs.File.{File, Top, opensWithContents, partsOf, rowsOf}
 use Rattle.model.specs.declared.Voice.{Voice}
 use Rattle.model.specs.declared.Wanted.the-variants as wanted
 use Rattle.model.specs.declared.FoundVoice.{FoundVoice}
@@ -51,3 +51,16 @@ topsAnswer (refused number place) = counted.Refused number place
 abbrev pub Few : Counted → Type 0
 Few (counted.Rows count) = count ≤ 65537
 Few (counted.Refused number place) = Unit
+
+-- and all of them together not so many that a count could not hold them
+abbrev pub Countable : Counted → Type 0
+Countable (counted.Rows count) = count ≤ 4295032832
+Countable (counted.Refused number place) = Unit
+
+unfoldable pub fileAnswer : Checked File → Counted
+fileAnswer (fine file) = counted.Rows (length (rowsOf file))
+fileAnswer (refused number place) = counted.Refused number place
+
+-- a row's four numbers
+abbrev pub rowNumbers : ℕ → ℕ → ℕ → ℕ → List ℕ
+rowNumbers id place size container = id ∷ place ∷ size ∷ container ∷ []

@@ -7,7 +7,7 @@ ghost use Rattle.model.specs.Words.{each};
 ghost use Rattle.model.specs.Item.{isFine, found};
 ghost use Rattle.model.specs.File.{topOf};
 ghost use Rattle.chunks.specs.Kept.{chunksIn};
-ghost use Rattle.reading.specs.Stages.{topsAnswer};
+ghost use Rattle.reading.specs.Stages.{topsAnswer, Countable};
 use super::top::check_top;
 use model::Counted;
 use model::ReadChunk;
@@ -16,6 +16,7 @@ pub fn check_tops(s: &[u8], start: usize, end: usize) -> Counted
     requires { ⌜ (start ≤ end) × (end ≤ length (now s)) × (length (now s) ≤ 65536) ⌝ }
     requires { ⌜ isFine (chunksIn (now s) start end) ≡ true ⌝ }
     ensures { λ r. ⌜ r ≡ topsAnswer (each (topOf (now (s .entry))) (found (chunksIn (now (s .entry)) start end))) ⌝ }
+    ensures { λ r. ⌜ Countable r ⌝ }
 {
     let mut rows: usize = 0;
     let mut at = start;

@@ -1,7 +1,7 @@
 -- `reading::tops::check_tops` meets its contract.
 use borrow.Author.Needs.{needs}
 use Prim.Native.Nat.{_-_}
-use Rattle.reading.proofs.AllTops.{Topping, topping}
+use Rattle.reading.proofs.AllTops.{Topping, topping, tops-countable}
 use Rattle.reading.proofs.tops.check_tops.Statement.{statement}
 use Rattle.reading.proofs.tops.check_tops.Tie as tie
 
@@ -24,7 +24,7 @@ enum-told : tie.Need-enum-told Inv-loop μ-loop
 enum-told c = search (needs, topping)
 
 returns : tie.Need-returns Inv-loop μ-loop
-returns c = search (needs, topping)
+returns c = (search topping, search (needs, tops-countable))
 
 check-top-requires : tie.Need-check-top-requires Inv-loop μ-loop
 check-top-requires c κs = search (needs, topping)
@@ -33,7 +33,7 @@ enum-known-number : tie.Need-enum-known-number Inv-loop μ-loop
 enum-known-number c = search (needs, topping)
 
 returns-2 : tie.Need-returns-2 Inv-loop μ-loop
-returns-2 c = search (needs, topping)
+returns-2 c = (search topping, search (needs, tops-countable))
 
 enum-known-count : tie.Need-enum-known-count Inv-loop μ-loop
 enum-known-count c = search (needs, topping)
@@ -48,7 +48,7 @@ loop-again : tie.Need-loop-again Inv-loop μ-loop
 loop-again c = search (needs, topping)
 
 returns-3 : tie.Need-returns-3 Inv-loop μ-loop
-returns-3 c = search (needs, topping)
+returns-3 c = (search topping, search (needs, tops-countable))
 
 pub check-tops-spec : {M : Type 1} → statement M
 check-tops-spec =
