@@ -18,7 +18,8 @@ use Rattle.model.specs.declared.Check.the-variants as check
 use Rattle.model.specs.declared.ReadChunk.{ReadChunk}
 use Rattle.model.specs.declared.ReadChunk.the-variants.{Is, Cut}
 use Rattle.model.proofs.Tests.{if-all}
-use Rattle.model.proofs.Walks.{withFirst, GoesOn, Left, left-starts, left-ends, left-stuck, left-refused, left-next}
+use Rattle.model.proofs.Answers.{answer-first}
+use Rattle.model.proofs.Walks.{GoesOn, Left, left-starts, left-ends, left-stuck, left-refused, left-next}
 use Rattle.chunks.proofs.Members.{one-more}
 
 -- A chunk that is read has its header and its body before the list's end, and its ID is that of its four bytes.
@@ -55,11 +56,6 @@ module _ (allowed : ℕ → Bool) (before : List Chunk) (chunk : Chunk) where
   once : allowed (chunk .id) ≡ true → any (λ earlier. earlier .id ≡? chunk .id) before ≡ false → allowedOnce allowed before chunk ≡ passed
   unfolding allowedOnce if_then_else_
   once h g = rw (h, g)
-
-answer-first : (chunk : Chunk) (found : Checked (List Chunk)) → checkAnswer (withFirst chunk found) ≡ checkAnswer found
-unfolding checkAnswer withFirst
-answer-first chunk (fine all) = refl
-answer-first chunk (refused number place) = refl
 
 -- so many chunks are checked, and their IDs are kept
 pub record Checking (list : ListOf) (s : List ℕ) (start end : ℕ) (ids : List ℕ) (count at : ℕ) : Type 0 where

@@ -13,16 +13,12 @@ use Rattle.model.specs.declared.ReadEvent.{ReadEvent}
 use Rattle.model.specs.declared.ReadEvent.the-variants as event
 use Rattle.model.specs.declared.Check.{Check}
 use Rattle.model.specs.declared.Check.the-variants as check
-use Rattle.model.proofs.Walks.{withFirst, Left, left-starts, left-ends, left-stuck, left-next}
+use Rattle.model.proofs.Answers.{answer-first}
+use Rattle.model.proofs.Walks.{Left, left-starts, left-ends, left-stuck, left-next}
 use Rattle.items.proofs.Ahead.{EventAhead, setup-message-ahead}
 
 abbrev free : List Event → Event → Checked (Unit {0})
 free before message = passed
-
-pub answer-first : {A : Type 0} (first : A) (found : Checked (List A)) → checkAnswer (withFirst first found) ≡ checkAnswer found
-unfolding checkAnswer withFirst
-answer-first first (fine all) = refl
-answer-first first (refused number place) = refl
 
 pub record SettingUp (s : List ℕ) (at : ℕ) : Type 0 where
   pub before : List Event

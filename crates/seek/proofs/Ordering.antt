@@ -18,7 +18,7 @@ use Rattle.model.specs.declared.Check.{Check}
 use Rattle.model.specs.declared.Check.the-variants as check
 use Rattle.model.proofs.Tests.{by-test, if-true, if-false, is-on, is-off}
 use Rattle.model.proofs.Walks.{GoesOn, Left, left-starts, left-ends, left-stuck, left-refused, left-next}
-use Rattle.items.proofs.Setup.{answer-first}
+use Rattle.model.proofs.Answers.{answer-first}
 use Rattle.seek.specs.Next.{isRefused, endOf, nextAt, rankOf, slotOf}
 use Rattle.seek.proofs.Letters.{letter-least, letter-most}
 use Rattle.seek.proofs.Ahead.{EntryAhead, next-ahead, entryOf, placed, stepOf, next-steps, entry-goes}
