@@ -1,4 +1,5 @@
+pub mod Answers
 pub mod Examples
+pub mod Stores
 pub mod Tests
 pub mod Walks
-pub mod Answers

@@ -2,3 +2,8 @@ pub mod Frames
 pub mod OneTop
 pub mod AllTops
 pub mod Files
+pub mod Filling
+pub mod TopRows
+pub mod AllRows
+pub mod FileRows
+pub mod Whole

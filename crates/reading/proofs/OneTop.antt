@@ -7,7 +7,7 @@ use mathlib.Core.Option.{Option, none, some}
 use lib.ListN.{length}
 use native.Mathlib.Nat.{add-zero, zero-add}
 use native.Mathlib.Omega.{arith}
-use Rattle.model.specs.Words.{if_then_else_, Checked, Checked.fine, Checked.refused, _>>=_, _>>_}
+use Rattle.model.specs.Words.{if_then_else_, Checked, _>>=_, _>>_}
 use Rattle.model.specs.Item.{isFine, found, checkAnswer}
 use Rattle.model.specs.Chunk.{Chunk, readChunk, chunkStep, chunkList}
 use Rattle.model.specs.Track.{Track, isAllowed, fixedHolds, voiceOf, trackOf}
@@ -21,7 +21,7 @@ use Rattle.chunks.specs.Kept.{chunksIn}
 use Rattle.model.proofs.Walks.{Stand}
 use Rattle.chunks.proofs.Lists.{ChunkAhead, chunk-ahead}
 use Rattle.chunks.proofs.Searches.{list-stands, none-left, never-cut, first-left, checked-chunks}
-use Rattle.model.specs.File.{Top, opened, topOf, partsOf}
+use Rattle.model.specs.File.{opened, topOf, partsOf}
 use Rattle.model.specs.declared.Check.{Check}
 use Rattle.model.specs.declared.Check.the-variants as check
 use Rattle.model.specs.declared.Counted.{Counted}
@@ -29,7 +29,7 @@ use Rattle.model.specs.declared.Counted.the-variants as counted
 use Rattle.tracks.specs.Stages.{bare}
 use Rattle.model.proofs.Answers.{answer-refused, answer-passed}
 use Rattle.tracks.proofs.Stages.{fixed-room}
-use Rattle.reading.specs.Stages.{placed, voiceAnswer, topRows, topAnswer, Few}
+use Rattle.reading.specs.Stages.{placed, voiceAnswer, topRows, topAnswer}
 
 module _ (b : Bool) (x y : Checked (Option Voice)) (z : FoundVoice) where
   pub voice-yes : b ≡ true → z ≡ voiceAnswer x → z ≡ voiceAnswer (if b then x else y)
@@ -141,11 +141,11 @@ track-parts s voice chunk track e =
 
 -- a track that is opened, and how many rows it brings
 
-passes : {A : Type 0} (a : A) → checkAnswer (fine a) ≡ check.Passed
+pub passes : {A : Type 0} (a : A) → checkAnswer (fine a) ≡ check.Passed
 unfolding checkAnswer
 passes a = refl
 
-id-free : (s : List ℕ) (voice : Voice) (place size : ℕ) → trackOf s voice (placed s place size) ≡ trackOf s voice (bare place size)
+pub id-free : (s : List ℕ) (voice : Voice) (place size : ℕ) → trackOf s voice (placed s place size) ≡ trackOf s voice (bare place size)
 unfolding trackOf fixedHolds
 id-free s voice place size = refl
 
@@ -154,7 +154,7 @@ module _ (s : List ℕ) (voice : Voice) (place size : ℕ) (r : Check) (is : r �
   unfolding opened topAnswer _>>=_
   opened-refused number at e = sym (rw (id-free s voice place size ∙ answer-refused _ number at (sym is ∙ e)))
 
-  a-track : r ≡ check.Passed → (track : Track) × (trackOf s voice (placed s place size) ≡ fine track)
+  pub a-track : r ≡ check.Passed → (track : Track) × (trackOf s voice (placed s place size) ≡ fine track)
   a-track e = go (trackOf s voice (placed s place size)) (id-free s voice place size)
     where
       go : (c : Checked Track) → c ≡ trackOf s voice (bare place size) → (track : Track) × (c ≡ fine track)
@@ -170,7 +170,7 @@ module _ (s : List ℕ) (voice : Voice) (place size : ℕ) (r : Check) (is : r �
     pub opened-from : place + 8 + 6 ≤ place + 8 + size
     opened-from = let h = opened-room in omega arith
 
-    listed-parts : chunksIn s (place + 8 + 6) (place + 8 + size) ≡ fine (a-track e .0 .parts)
+    pub listed-parts : chunksIn s (place + 8 + 6) (place + 8 + size) ≡ fine (a-track e .0 .parts)
     listed-parts =
         checked-chunks (isAllowed (list.Track voice)) s (place + 8 + 6) (place + 8 + size) _ (let h = opened-room in omega arith)
         (track-parts s voice (placed s place size) (a-track e .0) (a-track e .1) .1)
@@ -189,19 +189,19 @@ pub ruleset openings = (opened-refused, opened-rows)
 
 -- a chunk of the top level
 
-voice-is-refused : (c : Checked (Option Voice)) (number at : ℕ) → voiceAnswer c ≡ voice.Refused number at → c ≡ refused number at
+pub voice-is-refused : (c : Checked (Option Voice)) (number at : ℕ) → voiceAnswer c ≡ voice.Refused number at → c ≡ refused number at
 unfolding voiceAnswer
 voice-is-refused (fine none) number at e = let z : _≡_ {A = ℕ} 0 1 = cc in absurd (omega arith)
 voice-is-refused (fine (some v)) number at e = let z : _≡_ {A = ℕ} 0 1 = cc in absurd (omega arith)
 voice-is-refused (refused n p) number at e = let a : n ≡ number = cc in let b : p ≡ at = cc in rw (a, b)
 
-voice-is-closed : (c : Checked (Option Voice)) → voiceAnswer c ≡ voice.Closed → c ≡ fine none
+pub voice-is-closed : (c : Checked (Option Voice)) → voiceAnswer c ≡ voice.Closed → c ≡ fine none
 unfolding voiceAnswer
 voice-is-closed (fine none) e = refl
 voice-is-closed (fine (some v)) e = let z : _≡_ {A = ℕ} 0 1 = cc in absurd (omega arith)
 voice-is-closed (refused n p) e = let z : _≡_ {A = ℕ} 0 1 = cc in absurd (omega arith)
 
-voice-is-opened : (c : Checked (Option Voice)) (v : Voice) → voiceAnswer c ≡ voice.Opened v → c ≡ fine (some v)
+pub voice-is-opened : (c : Checked (Option Voice)) (v : Voice) → voiceAnswer c ≡ voice.Opened v → c ≡ fine (some v)
 unfolding voiceAnswer
 voice-is-opened (fine none) v e = let z : _≡_ {A = ℕ} 0 1 = cc in absurd (omega arith)
 voice-is-opened (fine (some w)) v e = let a : w ≡ v = cc in rw a

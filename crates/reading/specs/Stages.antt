@@ -1,14 +1,14 @@
 -- What the functions of this crate speak of beside the definitions of the model: the checks of a file from one of them on, and how many
 -- rows what they accept brings.
-use Prim.Native.Nat.{ℕ, _+_, _≤_}
+use Prim.Native.Nat.{ℕ, _+_, _/_, _≤_}
 use mathlib.Core.List.{List, [], _∷_, map}
 use mathlib.Core.Option.{Option, none, some}
 use lib.ListN.{length}
-use Rattle.model.specs.Words.{if_then_else_, sum, Checked, Checked.fine, Checked.refused, passed, _>>_}
+use Rattle.model.specs.Words.{_<?_, sum, Checked, passed, _>>=_, _>>_}
 use Rattle.model.specs.Bytes.{number}
 use Rattle.model.specs.Chunk.{Chunk}
 use Rattle.model.specs.Track.{hasOne}
-use Rattle.model.specs.File.{File, Top, opensWithContents, partsOf, rowsOf}
+use Rattle.model.specs.File.{File, Top, Row, opensWithContents, partsOf, rowsOf}
 use Rattle.model.specs.declared.Voice.{Voice}
 use Rattle.model.specs.declared.Wanted.the-variants as wanted
 use Rattle.model.specs.declared.FoundVoice.{FoundVoice}
@@ -64,3 +64,18 @@ fileAnswer (refused number place) = counted.Refused number place
 -- a row's four numbers
 abbrev pub rowNumbers : ℕ → ℕ → ℕ → ℕ → List ℕ
 rowNumbers id place size container = id ∷ place ∷ size ∷ container ∷ []
+
+unfoldable pub partsBy : Checked Top → List Chunk
+partsBy (fine top) = partsOf top
+partsBy (refused number place) = []
+
+unfoldable pub fileRows : Checked File → List Row
+fileRows (fine file) = rowsOf file
+fileRows (refused number place) = []
+
+-- 15, of a file whose rows go into a table of so many numbers
+unfoldable pub withRoom : ℕ → Checked File → Checked File
+withRoom room outcome = do
+  file ← outcome
+  if room / 4 <? length (rowsOf file) then refused 15 0 else passed
+  fine file
