@@ -1,8 +1,8 @@
 -- Laws by which `search` walks a definition made of choices and tests, from the facts in reach.
-use Prim.Native.Nat.{_<_, _≤_}
+use Prim.Native.Nat.{ℕ, _<_, _≤_}
 use mathlib.Core.Bool.{Bool, true, false, not}
 use mathlib.Core.Path.{_≡_, refl, sym, _∙_, subst}
-use lib.Dec.{T}
+use lib.Dec.{T, ltb, leb, eqb}
 use borrow.Author.Tests.{le-ltb, lt-ltb, le-leb, lt-leb, eq-eqb, ne-eqb, not-true, not-false}
 use Rattle.model.specs.Words.{if_then_else_, _and_, _or_}
 

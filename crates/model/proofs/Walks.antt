@@ -1,13 +1,13 @@
 -- Laws of walks through bytes and of checks in turn, for every kind of thing that is walked over: items, setup messages, chunks, seek
 -- entries.
 use Prim.Native.Nat.{ℕ, zero, suc, _+_, _-_, _<_, _≤_}
-use mathlib.Core.Bool.{true, false, false≢true}
+use mathlib.Core.Bool.{Bool, true, false, false≢true}
 use mathlib.Core.List.{List, [], _∷_}
 use mathlib.Core.Path.{_≡_, refl, sym, _∙_, ap, subst}
 use mathlib.Core.Logic.{_↔_}
 use native.Mathlib.Omega.{arith}
 use borrow.Author.Tests.{le-leb, lt-leb, leb-true, leb-false}
-use Rattle.model.specs.Words.{if_then_else_, _≤?_, Checked, passed, _>>=_, _>>_, Walk, Step, onward, walkFrom, walkTo, inTurn}
+use Rattle.model.specs.Words.{if_then_else_, _≤?_, Checked, Checked.fine, Checked.refused, passed, _>>=_, _>>_, Walk, Walk.over, Walk.broken, Walk._then_, Step, Step.met, Step.stuck, onward, walkFrom, walkTo, inTurn}
 use Rattle.model.specs.Item.{isFine, found}
 use Rattle.model.proofs.Tests.{by-test}
 

@@ -8,12 +8,12 @@ use mathlib.Core.List.{List, [], _∷_, _++_, map}
 use lib.ListN.{length, length-append, length-map}
 use lib.Seq.{sets}
 use native.Mathlib.Omega.{arith}
-use Rattle.model.specs.Words.{Checked, _>>=_, each}
+use Rattle.model.specs.Words.{Checked, Checked.fine, each}
 use Rattle.model.specs.Item.{isFine, found}
 use Rattle.model.specs.Chunk.{Chunk, readChunk, chunkStep}
 use Rattle.model.specs.Track.{voiceOf, trackOf}
 use Rattle.model.specs.declared.Voice.{Voice}
-use Rattle.model.specs.File.{Top, Row, topOf, opened, rowIn, partsOf, chunkOf, rowsFrom, numbersOf}
+use Rattle.model.specs.File.{Top, Top.leaf, Top.readable, Row, topOf, opened, rowIn, partsOf, chunkOf, rowsFrom, numbersOf}
 use Rattle.model.specs.declared.ReadChunk.{ReadChunk}
 use Rattle.model.specs.declared.ReadChunk.the-variants.{Is, Cut}
 use Rattle.chunks.specs.Kept.{chunksIn}

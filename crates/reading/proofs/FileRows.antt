@@ -1,12 +1,12 @@
 -- A file that passed its check: what its frame and its top level are, its rows stored, and the answer to a read of it.
-use Prim.Native.Nat.{ℕ, _+_, _-_, _*_, _/_, _<_, _≤_}
+use Prim.Native.Nat.{ℕ, _+_, _-_, _*_, _≤_}
 use mathlib.Core.Path.{_≡_, sym, _∙_, ap, ap₂}
 use mathlib.Core.Bool.{true}
 use mathlib.Core.List.{List, _∷_, _++_}
 use lib.ListN.{length, take, length-take}
 use lib.Seq.{sets}
 use native.Mathlib.Omega.{arith}
-use Rattle.model.specs.Words.{_≡?_, Checked, _>>=_, each}
+use Rattle.model.specs.Words.{_≡?_, Checked, Checked.fine, each}
 use Rattle.model.specs.Bytes.{number}
 use Rattle.model.specs.CheckCode.{checkCode}
 use Rattle.model.specs.Item.{isFine, found}

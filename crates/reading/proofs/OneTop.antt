@@ -7,7 +7,7 @@ use mathlib.Core.Option.{Option, none, some}
 use lib.ListN.{length}
 use native.Mathlib.Nat.{add-zero, zero-add}
 use native.Mathlib.Omega.{arith}
-use Rattle.model.specs.Words.{if_then_else_, Checked, _>>=_, _>>_}
+use Rattle.model.specs.Words.{if_then_else_, Checked, Checked.fine, Checked.refused, _>>=_, _>>_}
 use Rattle.model.specs.Item.{isFine, found, checkAnswer}
 use Rattle.model.specs.Chunk.{Chunk, readChunk, chunkStep, chunkList}
 use Rattle.model.specs.Track.{Track, isAllowed, fixedHolds, voiceOf, trackOf}
@@ -21,7 +21,7 @@ use Rattle.chunks.specs.Kept.{chunksIn}
 use Rattle.model.proofs.Walks.{Stand}
 use Rattle.chunks.proofs.Lists.{ChunkAhead, chunk-ahead}
 use Rattle.chunks.proofs.Searches.{list-stands, none-left, never-cut, first-left, checked-chunks}
-use Rattle.model.specs.File.{opened, topOf, partsOf}
+use Rattle.model.specs.File.{Top, opened, topOf, partsOf}
 use Rattle.model.specs.declared.Check.{Check}
 use Rattle.model.specs.declared.Check.the-variants as check
 use Rattle.model.specs.declared.Counted.{Counted}
@@ -29,7 +29,7 @@ use Rattle.model.specs.declared.Counted.the-variants as counted
 use Rattle.tracks.specs.Stages.{bare}
 use Rattle.model.proofs.Answers.{answer-refused, answer-passed}
 use Rattle.tracks.proofs.Stages.{fixed-room}
-use Rattle.reading.specs.Stages.{placed, voiceAnswer, topRows, topAnswer}
+use Rattle.reading.specs.Stages.{placed, voiceAnswer, topRows, topAnswer, Few}
 
 module _ (b : Bool) (x y : Checked (Option Voice)) (z : FoundVoice) where
   pub voice-yes : b ≡ true → z ≡ voiceAnswer x → z ≡ voiceAnswer (if b then x else y)

@@ -7,12 +7,12 @@ use mathlib.Core.List.{List, [], _∷_, map}
 use lib.ListN.{length}
 use lib.Seq.{sets}
 use native.Mathlib.Omega.{arith}
-use Rattle.model.specs.Words.{_>>=_}
+use Rattle.model.specs.Words.{Checked.fine, Step.met, _>>=_}
 use Rattle.model.specs.Bytes.{number}
 use Rattle.model.specs.Item.{isFine, found, checkAnswer}
 use Rattle.model.specs.Chunk.{Chunk, chunkStep}
 use Rattle.model.specs.Track.{Track, voiceOf, trackOf}
-use Rattle.model.specs.File.{topOf, opened, rowIn, partsOf, numbersOf}
+use Rattle.model.specs.File.{Top.readable, topOf, opened, rowIn, partsOf, numbersOf}
 use Rattle.model.specs.declared.Voice.{Voice}
 use Rattle.model.specs.declared.Check.the-variants as check
 use Rattle.model.specs.declared.FoundVoice.{FoundVoice}

@@ -8,7 +8,7 @@ use lib.Seq.{sets, sets-eq}
 use native.Mathlib.Nat.{zero-add}
 use native.Mathlib.Omega.{arith}
 use borrow.Author.Tests.{lt-ltb, le-ltb}
-use Rattle.model.specs.Words.{if_then_else_, _or_, _<?_, Checked, _>>=_, _>>_}
+use Rattle.model.specs.Words.{if_then_else_, _or_, _<?_, Checked, Checked.fine, Checked.refused, _>>=_, _>>_}
 use Rattle.model.specs.Item.{isFine}
 use Rattle.model.specs.File.{File, contentsOf, fileOf, rowsOf, numbersOf}
 use Rattle.model.specs.Answer.{writtenOver, memoryAfter, readOf, readAnswer, readTable}

@@ -4,7 +4,7 @@ use Prim.Native.Nat.{ℕ, _+_, _/_, _≤_}
 use mathlib.Core.List.{List, [], _∷_, map}
 use mathlib.Core.Option.{Option, none, some}
 use lib.ListN.{length}
-use Rattle.model.specs.Words.{_<?_, sum, Checked, passed, _>>=_, _>>_}
+use Rattle.model.specs.Words.{if_then_else_, _<?_, sum, Checked, Checked.fine, Checked.refused, passed, _>>=_, _>>_}
 use Rattle.model.specs.Bytes.{number}
 use Rattle.model.specs.Chunk.{Chunk}
 use Rattle.model.specs.Track.{hasOne}

@@ -10,7 +10,7 @@ use Rattle.model.specs.Words.{if_then_else_, _<?_}
 use Rattle.model.specs.Item.{Item}
 use Rattle.model.specs.Plain.{bytesOf}
 use Rattle.model.specs.Content.{Content, handyPhone}
-use Rattle.model.specs.Writing.{Sequence, wroteAnswer, memoryAfterWrite}
+use Rattle.model.specs.Writing.{Sequence, Sequence.items, Sequence.unfitAt, wroteAnswer, memoryAfterWrite}
 use Rattle.model.specs.declared.Wrote.{Wrote}
 use Rattle.model.specs.declared.Wrote.the-variants.{Bytes, Full, Unfit}
 use Rattle.model.proofs.Tests.{by-test}

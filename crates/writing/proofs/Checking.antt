@@ -10,10 +10,10 @@ use native.Mathlib.Omega.{arith}
 use borrow.Author.Tests.{le-ltb, lt-ltb}
 use Rattle.model.specs.Words.{if_then_else_, _<?_}
 use Rattle.model.specs.Bytes.{_!_}
-use Rattle.model.specs.Item.{Item}
+use Rattle.model.specs.Item.{Item, Item.endMark}
 use Rattle.model.specs.Plain.{itemBytes, bytesOf}
 use Rattle.model.specs.Content.{Content, handyPhone}
-use Rattle.model.specs.Writing.{eventOfWord, itemOf, Sequence, withItem, sequenceOf, wroteAnswer}
+use Rattle.model.specs.Writing.{eventOfWord, itemOf, Sequence, Sequence.items, Sequence.unfitAt, withItem, sequenceOf, wroteAnswer}
 use Rattle.model.specs.declared.Voice.{Voice}
 use Rattle.model.specs.declared.Wrote.{Wrote}
 use Rattle.model.specs.declared.Wrote.the-variants.{Bytes, Full, Unfit}

@@ -10,7 +10,7 @@ use native.Mathlib.Omega.{arith}
 use borrow.Author.Tests.{le-leb}
 use Rattle.model.specs.Words.{_and_}
 use Rattle.model.specs.Bytes.{_!_, part}
-use Rattle.model.specs.Content.{contentOf}
+use Rattle.model.specs.Content.{Content.exclusive, contentOf}
 use Rattle.model.specs.Writing.{eventFits, contentFits}
 use Rattle.model.specs.declared.Voice.{Voice}
 use Rattle.model.specs.declared.Event.{Event}

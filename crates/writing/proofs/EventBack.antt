@@ -12,7 +12,7 @@ use Rattle.model.specs.Words.{if_then_else_, _and_, _≤?_}
 use Rattle.model.specs.Bytes.{_!_}
 use Rattle.model.specs.Duration.{twoByteValue, durationAt, notZero, gateAt, durationBytes}
 use Rattle.model.specs.Event.{isNote, isWave, isSound, sound, gated, soundAt, longAt, shortAt, formed, controlAt, closedAt, exclusiveAt, systemAt, eventAt}
-use Rattle.model.specs.Content.{Content, contentOf, codeOf, controlBytes, contentBytes}
+use Rattle.model.specs.Content.{Content, Content.nop, Content.note, Content.wave, Content.control, Content.exclusive, contentOf, codeOf, controlBytes, contentBytes}
 use Rattle.model.specs.Writing.{noteFits, waveFits, contentFits}
 use Rattle.model.specs.declared.Voice.{Voice}
 use Rattle.model.specs.declared.Voice.the-variants.{Score, Pcm}

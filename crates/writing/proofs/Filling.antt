@@ -11,10 +11,10 @@ use native.Mathlib.Nat.{zero-add}
 use native.Mathlib.Omega.{arith}
 use Rattle.model.specs.Words.{isSome}
 use Rattle.model.specs.Bytes.{_!_}
-use Rattle.model.specs.Item.{Item}
+use Rattle.model.specs.Item.{Item, Item.endMark}
 use Rattle.model.specs.Plain.{itemBytes, bytesOf}
 use Rattle.model.specs.Content.{Content, handyPhone}
-use Rattle.model.specs.Writing.{eventOfWord, itemOf, Sequence, sequenceOf}
+use Rattle.model.specs.Writing.{eventOfWord, itemOf, Sequence, Sequence.items, Sequence.unfitAt, sequenceOf}
 use Rattle.model.specs.declared.Voice.{Voice}
 use Rattle.writing.specs.Parts.{givenBytes, sequenceBytes, Holds}
 use Rattle.model.proofs.Stores.{sets-append}

@@ -13,10 +13,10 @@ use borrow.Author.Tests.{le-leb, lt-leb, leb-true}
 use Rattle.model.specs.Words.{if_then_else_, _and_, _≤?_, isSome}
 use Rattle.model.specs.Bytes.{_!_}
 use Rattle.model.specs.Duration.{durationBytes}
-use Rattle.model.specs.Item.{Item}
+use Rattle.model.specs.Item.{Item, Item.timed, Item.endMark}
 use Rattle.model.specs.Plain.{itemBytes}
 use Rattle.model.specs.Content.{Content, contentOf, contentBytes, handyPhone}
-use Rattle.model.specs.Writing.{eventFits, timedBytes, kindIn, eventIn, eventOfWord, itemOf, Sequence, withItem, sequenceOf}
+use Rattle.model.specs.Writing.{eventFits, timedBytes, kindIn, eventIn, eventOfWord, itemOf, Sequence, Sequence.items, Sequence.unfitAt, withItem, sequenceOf}
 use Rattle.model.specs.declared.Voice.{Voice}
 use Rattle.model.specs.declared.Event.{Event}
 use Rattle.model.proofs.Tests.{by-test, and-left, and-right, flag-on, flag-off}

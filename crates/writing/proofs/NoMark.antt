@@ -11,7 +11,7 @@ use Rattle.model.specs.Words.{_and_}
 use Rattle.model.specs.Bytes.{_!_}
 use Rattle.model.specs.Duration.{durationBytes}
 use Rattle.model.specs.Item.{isEndMark}
-use Rattle.model.specs.Content.{Content, codeOf, controlBytes, contentBytes}
+use Rattle.model.specs.Content.{Content, Content.nop, Content.note, Content.wave, Content.control, Content.exclusive, codeOf, controlBytes, contentBytes}
 use Rattle.model.specs.Writing.{contentFits}
 use Rattle.model.specs.declared.Voice.{Voice}
 use Rattle.model.proofs.Tests.{and-left, first-false}

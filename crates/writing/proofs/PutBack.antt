@@ -9,7 +9,7 @@ use lib.Seq.{sets, sets-eq, length-take-le}
 use native.Mathlib.Omega.{arith}
 use borrow.Author.Tests.{le-leb, ltb-false, leb-true, not-false}
 use Rattle.model.specs.Words.{_<?_, _≤?_}
-use Rattle.model.specs.Item.{Item}
+use Rattle.model.specs.Item.{Item, Item.timed}
 use Rattle.model.specs.Plain.{itemBytes}
 use Rattle.model.specs.Content.{Content, contentOf, handyPhone}
 use Rattle.model.specs.Writing.{eventFits, itemFits, timedBytes, putAnswer, memoryAfterPut, putMemory}

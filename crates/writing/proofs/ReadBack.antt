@@ -10,7 +10,7 @@ use borrow.Author.Tests.{le-leb, leb-true}
 use Rattle.model.specs.Words.{if_then_else_, _and_, _≤?_}
 use Rattle.model.specs.Bytes.{_!_}
 use Rattle.model.specs.Duration.{durationBytes}
-use Rattle.model.specs.Item.{isEndMark, withEvent, withDuration, itemAt, Item}
+use Rattle.model.specs.Item.{isEndMark, withEvent, withDuration, itemAt, Item, Item.timed, Item.endMark}
 use Rattle.model.specs.Plain.{itemBytes}
 use Rattle.model.specs.Content.{Content, contentOf, contentBytes, handyPhone}
 use Rattle.model.specs.Writing.{itemFits}

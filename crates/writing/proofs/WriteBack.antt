@@ -11,7 +11,7 @@ use Rattle.model.specs.Words.{_≤?_, _≡?_}
 use Rattle.model.specs.Bytes.{_!_, part}
 use Rattle.model.specs.Duration.{durationAt, durationBytes}
 use Rattle.model.specs.Event.{eventAt}
-use Rattle.model.specs.Item.{isEndMark, withEvent, withDuration, itemAt, Item}
+use Rattle.model.specs.Item.{isEndMark, withEvent, withDuration, itemAt, Item, Item.timed, Item.endMark}
 use Rattle.model.specs.Plain.{itemBytes}
 use Rattle.model.specs.Content.{Content, contentOf, contentBytes, handyPhone}
 use Rattle.model.specs.Writing.{itemFits}
