@@ -1,8 +1,11 @@
 // The probe: takes a row of cases on standard input and writes the answer to each, as text, on standard output, with a line that says
 // whether lent memory outside the answer was kept. A case is one byte for the operation, four numbers of four bytes (stated length, row
-// number, room, length of the buffer), and the buffer. It answers `t` (pitch). A case that is cut, too large or of an unknown operation
-// ends the run with the line `bad case`.
+// number, room, length of the buffer), and the buffer. It answers `r` (read) and `t` (pitch). A case that is cut, too large or of an
+// unknown operation ends the run with the line `bad case`.
+mod rows;
+
 use model::Pitch;
+use rows::answer_read;
 use text::flush;
 use text::put;
 use text::put_byte;
@@ -55,12 +58,19 @@ fn answer_pitch(page: &mut [u8], used: usize, byte: u32, shift: u32) -> usize {
     }
 }
 
+fn is_known(operation: u8) -> bool {
+    if operation == b'r' {
+        return true;
+    }
+    operation == b't'
+}
+
 // Whether the case is of an operation that is answered, within bounds and whole; its buffer is read.
 fn is_good(case: Case, buffer: &mut [u8]) -> bool {
     if case.bytes < 17 {
         return false;
     }
-    if case.operation != b't' {
+    if !is_known(case.operation) {
         return false;
     }
     if LARGEST < case.room {
@@ -76,12 +86,35 @@ fn is_good(case: Case, buffer: &mut [u8]) -> bool {
     io::read_full(0, &mut buffer[..size]) == size
 }
 
-fn answer(page: &mut [u8], used: usize, case: Case) -> usize {
+// The answer to a good case, with room for as many rows as it states.
+fn answer(page: &mut [u8], used: usize, case: Case, buffer: &[u8], table: &mut [u32]) -> usize {
+    if case.operation == b'r' {
+        return answer_read(page, used, buffer, case.stated, table);
+    }
     let used = answer_pitch(page, used, case.stated, case.row);
     put(page, used, b"-- kept\n")
 }
 
-fn run(page: &mut [u8], buffer: &mut [u8]) {
+// The part of the buffer and of the table that a good case lends.
+fn answer_lent(
+    page: &mut [u8],
+    used: usize,
+    case: Case,
+    buffer: &[u8],
+    table: &mut [u32],
+) -> usize {
+    let size = case.size as usize;
+    if buffer.len() < size {
+        return used;
+    }
+    let room = case.room as usize * 4;
+    if table.len() < room {
+        return used;
+    }
+    answer(page, used, case, &buffer[..size], &mut table[..room])
+}
+
+fn run(page: &mut [u8], buffer: &mut [u8], table: &mut [u32]) {
     let mut used: usize = 0;
     let mut turns: u32 = 0;
     while turns < 1_000_000_000 {
@@ -96,7 +129,7 @@ fn run(page: &mut [u8], buffer: &mut [u8]) {
             flush(page, used);
             return;
         }
-        used = answer(page, used, case);
+        used = answer_lent(page, used, case, buffer, table);
     }
     flush(page, used);
 }
@@ -104,5 +137,6 @@ fn run(page: &mut [u8], buffer: &mut [u8]) {
 fn main() {
     let mut page = [0u8; 65536];
     let mut buffer = [0u8; 70000];
-    run(&mut page, &mut buffer);
+    let mut table = [0u32; 280000];
+    run(&mut page, &mut buffer, &mut table);
 }

@@ -7,6 +7,9 @@ use Rattle.probe.proofs.is_good.Tie as tie
 returns : tie.Need-returns
 returns c = search needs
 
+is-known-requires : tie.Need-is-known-requires
+is-known-requires c κs = search needs
+
 returns-2 : tie.Need-returns-2
 returns-2 c = search needs
 
@@ -42,6 +45,7 @@ is-good-spec =
     tie.close
     (tie.spec
     returns
+    is-known-requires
     returns-2
     returns-3
     returns-4

@@ -7,10 +7,10 @@ use Rattle.probe.proofs.run.Statement.{statement}
 use Rattle.probe.proofs.run.Tie as tie
 
 abbrev Inv-loop : tie.InvT-loop
-Inv-loop page₀ buffer₀ used₀ turns₀ t6 page buffer used turns = (turns ≤ 1000000000) × (length page ≡ length page₀) × (length buffer ≡ length buffer₀)
+Inv-loop page₀ buffer₀ table₀ used₀ turns₀ t7 page buffer table used turns = (turns ≤ 1000000000) × (length page ≡ length page₀) × (length buffer ≡ length buffer₀) × (length table ≡ length table₀)
 
 abbrev μ-loop : tie.MeasureT-loop
-μ-loop page₀ buffer₀ used₀ turns₀ t6 page buffer used turns = 1000000000 - turns
+μ-loop page₀ buffer₀ table₀ used₀ turns₀ t7 page buffer table used turns = 1000000000 - turns
 
 loop-holds : tie.Need-loop-holds Inv-loop μ-loop
 loop-holds c = search needs
@@ -30,6 +30,9 @@ same-length c = search needs
 same-length-2 : tie.Need-same-length-2 Inv-loop μ-loop
 same-length-2 c = search needs
 
+same-length-3 : tie.Need-same-length-3 Inv-loop μ-loop
+same-length-3 c = search needs
+
 returns : tie.Need-returns Inv-loop μ-loop
 returns c = search needs
 
@@ -45,17 +48,20 @@ put-requires c κs = search needs
 flush-requires-2 : tie.Need-flush-requires-2 Inv-loop μ-loop
 flush-requires-2 c κs = search needs
 
-same-length-3 : tie.Need-same-length-3 Inv-loop μ-loop
-same-length-3 c = search needs
-
 same-length-4 : tie.Need-same-length-4 Inv-loop μ-loop
 same-length-4 c = search needs
+
+same-length-5 : tie.Need-same-length-5 Inv-loop μ-loop
+same-length-5 c = search needs
+
+same-length-6 : tie.Need-same-length-6 Inv-loop μ-loop
+same-length-6 c = search needs
 
 returns-2 : tie.Need-returns-2 Inv-loop μ-loop
 returns-2 c = search needs
 
-answer-requires : tie.Need-answer-requires Inv-loop μ-loop
-answer-requires c κs = search needs
+answer-lent-requires : tie.Need-answer-lent-requires Inv-loop μ-loop
+answer-lent-requires c κs = search needs
 
 loop-less : tie.Need-loop-less Inv-loop μ-loop
 loop-less c = search needs
@@ -66,11 +72,14 @@ loop-again c = search needs
 flush-requires-3 : tie.Need-flush-requires-3 Inv-loop μ-loop
 flush-requires-3 c κs = search needs
 
-same-length-5 : tie.Need-same-length-5 Inv-loop μ-loop
-same-length-5 c = search needs
+same-length-7 : tie.Need-same-length-7 Inv-loop μ-loop
+same-length-7 c = search needs
 
-same-length-6 : tie.Need-same-length-6 Inv-loop μ-loop
-same-length-6 c = search needs
+same-length-8 : tie.Need-same-length-8 Inv-loop μ-loop
+same-length-8 c = search needs
+
+same-length-9 : tie.Need-same-length-9 Inv-loop μ-loop
+same-length-9 c = search needs
 
 returns-3 : tie.Need-returns-3 Inv-loop μ-loop
 returns-3 c = search needs
@@ -87,18 +96,21 @@ run-spec =
     flush-requires
     same-length
     same-length-2
+    same-length-3
     returns
     is-good-requires
     slice-aggregate-put
     put-requires
     flush-requires-2
-    same-length-3
     same-length-4
+    same-length-5
+    same-length-6
     returns-2
-    answer-requires
+    answer-lent-requires
     loop-less
     loop-again
     flush-requires-3
-    same-length-5
-    same-length-6
+    same-length-7
+    same-length-8
+    same-length-9
     returns-3)
