@@ -2,3 +2,4 @@ pub mod Examples
 pub mod Tests
 pub mod Walks
 pub mod Answers
+pub mod PastLength
