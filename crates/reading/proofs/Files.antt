@@ -29,7 +29,7 @@ use Rattle.reading.proofs.OneTop.{then-fine, bind-fine, fine-some}
 -- a frame that passes
 
 module _ (s : List ℕ) (chunks : List Chunk) (e : frameOf s ≡ fine chunks) where
-  long-enough : 10 ≤ length s
+  pub long-enough : 10 ≤ length s
   unfolding frameOf isFine
   long-enough =
       by-test (length s <? 10)
@@ -46,7 +46,7 @@ module _ (s : List ℕ) (chunks : List Chunk) (e : frameOf s ≡ fine chunks) wh
       let f = then-fine _ _ chunks (d .1) in
       c .1 ∙ f .1
 
-  frame-chunks : chunksIn s 8 (length s - 2) ≡ fine chunks
+  pub frame-chunks : chunksIn s 8 (length s - 2) ≡ fine chunks
   frame-chunks = checked-chunks (isAllowed list.File) s 8 (length s - 2) chunks (let h = long-enough in omega arith) frame-list
 
 -- how many rows there are

@@ -2,3 +2,5 @@ pub mod Frames
 pub mod OneTop
 pub mod AllTops
 pub mod Files
+pub mod Accepted
+pub mod Tiling

@@ -125,7 +125,7 @@ abbrev partsIn : Checked Track → List Chunk
 partsIn (fine track) = track .parts
 partsIn (refused number place) = []
 
-track-parts : (s : List ℕ) (voice : Voice) (chunk : Chunk) (track : Track) → trackOf s voice chunk ≡ fine track
+pub track-parts : (s : List ℕ) (voice : Voice) (chunk : Chunk) (track : Track) → trackOf s voice chunk ≡ fine track
     → (isFine (fixedHolds voice s chunk) ≡ true)
     × (chunkList (isAllowed (list.Track voice)) s (chunk .place + 8 + 6) (chunk .place + 8 + chunk .size) ≡ fine (track .parts))
 unfolding trackOf
