@@ -21,6 +21,7 @@ use Rattle.model.proofs.Walks.{Stand}
 use Rattle.chunks.specs.Kept.{chunksIn}
 use Rattle.chunks.proofs.Lists.{ChunkAhead, chunk-ahead}
 use Rattle.chunks.proofs.Searches.{list-stands, checked-chunks}
+use Rattle.reading.specs.Stages.{placed, topsOf}
 use Rattle.reading.proofs.OneTop.{then-fine, bind-fine, track-parts}
 use Rattle.reading.proofs.Files.{long-enough, frame-chunks}
 
@@ -58,10 +59,6 @@ whole-size s chunks e =
 
 -- what the file says of its contents
 
-abbrev topsIn : Checked File → List Top
-topsIn (fine file) = file .tops
-topsIn (refused number place) = []
-
 abbrev chunkIn : Checked File → Chunk → Chunk
 chunkIn (fine file) other = file .chunk
 chunkIn (refused number place) other = other
@@ -81,7 +78,7 @@ read-stand s start end chunks h e =
     subst (λ (c : Checked (List Chunk)). Stand end (chunkStep s end) start (found c)) e (list-stands s start end h (ap isFine e))
 
 pub contents-made : (s : List ℕ) (file : File) → contentsOf s ≡ fine file → Made s file
-unfolding contentsOf
+unfolding contentsOf topsOf
 contents-made s file e =
     let a = bind-fine _ _ file e in
     let b = bind-fine _ _ file (a .2) in
@@ -92,23 +89,24 @@ contents-made s file e =
       whole = sym (ap (λ (c : Checked File). chunkIn c (chunkAt s 0)) (b .2));
       framed = a .1;
       stand = read-stand s 8 (length s - 2) (a .0) (omega arith) (frame-chunks s (a .0) (a .1));
-      opens = b .1 ∙ ap fine (ap topsIn (b .2));
+      opens = b .1 ∙ ap fine (ap topsOf (b .2));
     }
 
 -- THE FIRST CHUNK of those that stand from a place on begins there, and the next begins where it ends.
 met-is : (s : List ℕ) (end at : ℕ) (r : ReadChunk) (chunk : Chunk) (next : ℕ) → ChunkAhead s end at r → chunkMet at r ≡ met chunk next
-    → (chunk .place ≡ at) × (next ≡ at + 8 + chunk .size) × (next ≤ end)
+    → (chunk .place ≡ at) × (next ≡ at + 8 + chunk .size) × (next ≤ end) × (chunk ≡ placed s at (chunk .size))
 unfolding chunkMet
 met-is s end at (Is id size n) chunk next a e =
     let one : Chunk = record { id = id; place = at; size = size } in
     let same : one ≡ chunk = cc in
     let on : n ≡ next = cc in
     let size-is : size ≡ chunk .size = ap (λ (c : Chunk). c .size) same in
-    (sym (ap (λ (c : Chunk). c .place) same), omega arith, omega arith)
+    let placed-is : one ≡ placed s at (chunk .size) = rw (a .0, size-is) in
+    (sym (ap (λ (c : Chunk). c .place) same), omega arith, omega arith, sym same ∙ placed-is)
 met-is s end at Cut chunk next a e = let z : _≡_ {A = ℕ} 0 1 = cc in absurd (omega arith)
 
 pub stands-first : (s : List ℕ) (end at : ℕ) (chunk : Chunk) (next : ℕ) → at ≤ end → chunkStep s end at ≡ met chunk next
-    → (chunk .place ≡ at) × (next ≡ at + 8 + chunk .size) × (next ≤ end)
+    → (chunk .place ≡ at) × (next ≡ at + 8 + chunk .size) × (next ≤ end) × (chunk ≡ placed s at (chunk .size))
 unfolding chunkStep
 stands-first s end at chunk next within e = met-is s end at (readChunk s end at) chunk next (chunk-ahead s end at within) e
 

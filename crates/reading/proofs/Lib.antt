@@ -4,3 +4,4 @@ pub mod AllTops
 pub mod Files
 pub mod Accepted
 pub mod Tiling
+pub mod Finding
