@@ -72,7 +72,8 @@ pub record Made (s : List ℕ) (file : File) : Type 0 where
   pub opens : each (topOf s) chunks ≡ fine (file .tops)
 
 -- the chunks that a list was read as stand in it
-pub read-stand : (s : List ℕ) (start end : ℕ) (chunks : List Chunk) → start ≤ end → chunksIn s start end ≡ fine chunks → Stand end (chunkStep s end) start chunks
+pub read-stand : (s : List ℕ) (start end : ℕ) (chunks : List Chunk) → start ≤ end → chunksIn s start end ≡ fine chunks
+    → Stand end (chunkStep s end) start chunks
 unfolding found isFine
 read-stand s start end chunks h e =
     subst (λ (c : Checked (List Chunk)). Stand end (chunkStep s end) start (found c)) e (list-stands s start end h (ap isFine e))
@@ -128,7 +129,8 @@ abbrev pub OpenedAs : List ℕ → Chunk → Top → Type 0
 OpenedAs s chunk (leaf one) = (one ≡ chunk) × (voiceOf s chunk ≡ fine none)
 OpenedAs s chunk (readable one track) = (one ≡ chunk) × (voice : Voice) × (voiceOf s chunk ≡ fine (some voice)) × (trackOf s voice chunk ≡ fine track)
 
-opened-so : (s : List ℕ) (chunk : Chunk) (voice : Option Voice) (top : Top) → voiceOf s chunk ≡ fine voice → opened s chunk voice ≡ fine top → OpenedAs s chunk top
+opened-so : (s : List ℕ) (chunk : Chunk) (voice : Option Voice) (top : Top) → voiceOf s chunk ≡ fine voice → opened s chunk voice ≡ fine top
+    → OpenedAs s chunk top
 unfolding opened
 opened-so s chunk none top v e = let is : leaf chunk ≡ top = cc in subst (OpenedAs s chunk) is (refl, v)
 opened-so s chunk (some voice) top v e =

@@ -81,7 +81,8 @@ module _ (s : List ℕ) (place size : ℕ) (ok : isFine (topOf s (placed s place
     unfolding isFine
     rows-fine = ap isFine parts-are
 
-    pub rows-opened : (n : ℕ) → n ≡ length (found (chunksIn s (place + 8 + 6) (place + 8 + size))) → counted.Rows (1 + n) ≡ topAnswer (topOf s (placed s place size))
+    pub rows-opened : (n : ℕ) → n ≡ length (found (chunksIn s (place + 8 + 6) (place + 8 + size)))
+        → counted.Rows (1 + n) ≡ topAnswer (topOf s (placed s place size))
     unfolding topAnswer topRows partsOf found
     rows-opened n h =
         ap (λ (k : ℕ). counted.Rows (1 + k)) (h ∙ ap (λ (c : Checked (List Chunk)). length (found c)) parts-are) ∙ sym (ap topAnswer (a-track v e .2))
@@ -99,7 +100,8 @@ module _ (s : List ℕ) (place size : ℕ) (ok : isFine (topOf s (placed s place
   unfolding foundTrack foundTop
   track-opened v e =
       let t = a-track v e in
-      sym (ap (λ (w : Voice). At w place size) (track-parts s v (placed s place size) (t .0) (t .1) .2)) ∙ sym (ap (λ (c : Checked Top). foundTrack (foundTop c)) (t .2))
+      sym (ap (λ (w : Voice). At w place size) (track-parts s v (placed s place size) (t .0) (t .1) .2))
+      ∙ sym (ap (λ (c : Checked Top). foundTrack (foundTop c)) (t .2))
 
 pub ruleset row-counts = (rows-refused, rows-closed, rows-opened)
 
