@@ -72,7 +72,7 @@ pub record Made (s : List ℕ) (file : File) : Type 0 where
   pub opens : each (topOf s) chunks ≡ fine (file .tops)
 
 -- the chunks that a list was read as stand in it
-pub read-stand : (s : List ℕ) (start end : ℕ) (chunks : List Chunk) → start ≤ end → chunksIn s start end ≡ fine chunks
+read-stand : (s : List ℕ) (start end : ℕ) (chunks : List Chunk) → start ≤ end → chunksIn s start end ≡ fine chunks
     → Stand end (chunkStep s end) start chunks
 unfolding found isFine
 read-stand s start end chunks h e =
