@@ -10,6 +10,7 @@ use std::process::ExitCode;
 
 const USAGE: &str = "usage: second list FILE | tune | answer | \
 generate OPERATIONS COUNT SEED | generate-all-pitches | \
+generate-many-chunks ROWS | \
 compare CASES ANSWERS [DIFFERENCE] | clauses OPERATIONS COUNT SEED | soak COUNT SEED";
 
 type Outcome = Result<ExitCode, String>;
@@ -22,6 +23,7 @@ fn main() -> ExitCode {
         ["tune"] => put(&tune::worked_tune()),
         ["answer"] => answer(),
         ["generate", letters, count, seed] => write_cases(letters, count, seed),
+        ["generate-many-chunks", rows] => write_many_chunks(rows),
         ["generate-all-pitches"] => put_cases(generate::all_pitches()),
         ["compare", cases, answers] => compare_files(cases, answers, "difference.case"),
         ["compare", cases, answers, difference] => compare_files(cases, answers, difference),
@@ -84,6 +86,10 @@ fn put_cases(cases: impl Iterator<Item = Case>) -> Outcome {
         progress(done, "cases");
     }
     output.flush().map(|()| ExitCode::SUCCESS).map_err(|error| error.to_string())
+}
+
+fn write_many_chunks(rows: &str) -> Outcome {
+    put_cases(std::iter::once(generate::read_of_many_chunks(number(rows)? as usize)))
 }
 
 fn write_cases(letters: &str, count: &str, seed: &str) -> Outcome {

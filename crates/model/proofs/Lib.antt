@@ -1,5 +1,6 @@
 pub mod Answers
 pub mod Examples
+pub mod PastLength
 pub mod Stores
 pub mod Tests
 pub mod Walks

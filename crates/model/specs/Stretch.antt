@@ -2,7 +2,9 @@
 -- that a file's rows name, in file order.
 use Prim.Native.Nat.{ℕ, _+_, _-_}
 use mathlib.Core.Path.{_≡_}
+use mathlib.Core.Bool.{Bool}
 use mathlib.Core.List.{List, [], _∷_, _++_}
+use Rattle.model.specs.Words.{_and_, _<?_, _≤?_}
 use Rattle.model.specs.Chunk.{Chunk, bodyPlace, placeAfter}
 use Rattle.model.specs.Track.{Track, fixedSize}
 use Rattle.model.specs.File.{File, Top, Top.leaf, Top.readable}
@@ -41,3 +43,7 @@ stretchesOf file = headerOf (file .chunk) ∷ stretchesIn (file .tops) ++ (check
 abbrev pub Tile : ℕ → List Stretch → ℕ → Type 0
 Tile from [] to = from ≡ to
 Tile from (stretch ∷ stretches) to = (stretch .place ≡ from) × Tile (from + stretch .size) stretches to
+
+-- The stretch has the byte at a place.
+unfoldable pub holds : ℕ → Stretch → Bool
+holds i stretch = (stretch .place ≤? i) and (i <? stretch .place + stretch .size)

@@ -201,6 +201,16 @@ pub enum FoundVoice {
     Refused { number: u32, place: usize },
 }
 
+// The track that a row names: its voice, the place of its header, and its body's size.
+pub enum FoundTrack {
+    At {
+        voice: Voice,
+        place: usize,
+        size: usize,
+    },
+    Nowhere,
+}
+
 // How many rows something brings.
 pub enum Counted {
     Rows { count: usize },

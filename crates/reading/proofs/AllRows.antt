@@ -3,7 +3,6 @@
 use Prim.Native.Nat.{ℕ, _+_, _-_, _*_, _<_, _≤_}
 use mathlib.Core.Path.{_≡_, refl, sym, _∙_, ap, subst}
 use mathlib.Core.Bool.{true}
-use mathlib.Core.Option.{Option, none, some}
 use mathlib.Core.List.{List, [], _∷_, _++_, map}
 use lib.ListN.{length, length-append, length-map}
 use lib.Seq.{sets}
@@ -11,9 +10,7 @@ use native.Mathlib.Omega.{arith}
 use Rattle.model.specs.Words.{Checked, Checked.fine, each}
 use Rattle.model.specs.Item.{isFine, found}
 use Rattle.model.specs.Chunk.{Chunk, readChunk, chunkStep}
-use Rattle.model.specs.Track.{voiceOf, trackOf}
-use Rattle.model.specs.declared.Voice.{Voice}
-use Rattle.model.specs.File.{Top, Top.leaf, Top.readable, Row, topOf, opened, rowIn, partsOf, chunkOf, rowsFrom, numbersOf}
+use Rattle.model.specs.File.{Top, Top.leaf, Top.readable, Row, topOf, rowIn, partsOf, chunkOf, rowsFrom, numbersOf}
 use Rattle.model.specs.declared.ReadChunk.{ReadChunk}
 use Rattle.model.specs.declared.ReadChunk.the-variants.{Is, Cut}
 use Rattle.chunks.specs.Kept.{chunksIn}
@@ -22,7 +19,7 @@ use Rattle.model.proofs.Stores.{sets-append}
 use Rattle.chunks.proofs.Lists.{ChunkAhead, chunk-ahead}
 use Rattle.chunks.proofs.Searches.{list-stands, none-left, never-cut, first-left}
 use Rattle.reading.specs.Stages.{placed, partsBy}
-use Rattle.reading.proofs.OneTop.{bind-fine}
+use Rattle.reading.proofs.Accepted.{each-fine, each-none, OpenedAs, opened-as}
 use Rattle.reading.proofs.Filling.{numbers-append, numbers-many}
 use Rattle.reading.proofs.TopRows.{top-few}
 
@@ -37,28 +34,10 @@ rows-first k chunk top tops e =
     ap (λ (c : Chunk). rowIn 0 c ∷ map (rowIn k) (partsOf top) ++ rowsFrom (k + 1 + length (partsOf top)) tops) e
 
 -- a chunk of the top level is the one that was checked
-opened-same : (s : List ℕ) (chunk : Chunk) (top : Top) (v : Option Voice) → opened s chunk v ≡ fine top → chunkOf top ≡ chunk
-unfolding opened chunkOf
-opened-same s chunk top none q = let same : leaf chunk ≡ top = cc in ap chunkOf (sym same)
-opened-same s chunk top (some v) q =
-    let b = bind-fine (trackOf s v chunk) _ top q in
-    let r : fine (readable chunk (b .0)) ≡ fine top = b .2 in
-    let same : readable chunk (b .0) ≡ top = cc in
-    ap chunkOf (sym same)
-
-same-chunk : (s : List ℕ) (chunk : Chunk) (top : Top) → topOf s chunk ≡ fine top → chunkOf top ≡ chunk
-unfolding topOf
-same-chunk s chunk top e = let b = bind-fine (voiceOf s chunk) _ top e in opened-same s chunk top (b .0) (b .2)
-
-each-first : (s : List ℕ) (chunk : Chunk) (rest : List Chunk) (tops : List Top) → each (topOf s) (chunk ∷ rest) ≡ fine tops
-    → (top : Top) × (others : List Top) × (topOf s chunk ≡ fine top) × (each (topOf s) rest ≡ fine others) × (tops ≡ top ∷ others)
-unfolding each
-each-first s chunk rest tops e =
-    let a = bind-fine _ _ tops e in
-    let b = bind-fine _ _ tops (a .2) in
-    let q : fine (a .0 ∷ b .0) ≡ fine tops = b .2 in
-    let same : a .0 ∷ b .0 ≡ tops = cc in
-    (a .0, b .0, a .1, b .1, sym same)
+same-chunk : (s : List ℕ) (chunk : Chunk) (top : Top) → OpenedAs s chunk top → chunkOf top ≡ chunk
+unfolding chunkOf
+same-chunk s chunk (leaf one) o = o .0
+same-chunk s chunk (readable one track) o = o .0
 
 pub record Rowing (s : List ℕ) (end : ℕ) (l out : List ℕ) (row at : ℕ) : Type 0 where
   pub rest : List Chunk
@@ -96,12 +75,11 @@ module _ (s : List ℕ) (end : ℕ) (l out : List ℕ) (row at : ℕ) (f : Rowin
   row-kept = f .same
 
   pub row-ends : end ≤ at → out ≡ sets l 4 (numbersOf (rowsFrom 1 (found (each (topOf s) (found (chunksIn s 8 end))))))
-  unfolding each rowsFrom numbersOf
+  unfolding rowsFrom numbersOf
   row-ends past =
       let none = none-left s end at (f .within) (f .rest) (f .stand) past in
-      let q : fine [] ≡ fine (f .tops) = ap (each (topOf s)) (sym none) ∙ f .all in
-      let no-tops : [] ≡ f .tops = cc in
-      ap (λ (tops : List Top). sets out (4 * row) (numbersOf (rowsFrom row tops))) no-tops ∙ f .whole
+      let no-tops = each-none (topOf s) (f .tops) (ap (each (topOf s)) (sym none) ∙ f .all) in
+      ap (λ (tops : List Top). sets out (4 * row) (numbersOf (rowsFrom row tops))) (sym no-tops) ∙ f .whole
 
   module _ (r : ReadChunk) (here : at < end) (is : r ≡ readChunk s end at) where
     pub row-never : r ≡ Cut → out ≡ sets l 4 (numbersOf (rowsFrom 1 (found (each (topOf s) (found (chunksIn s 8 end))))))
@@ -129,7 +107,7 @@ module _ (s : List ℕ) (end : ℕ) (l out : List ℕ) (row at : ℕ) (f : Rowin
       First = (top : Top) × (others : List Top) × (topOf s (placed s at size) ≡ fine top) × (each (topOf s) (left .0) ≡ fine others) × (f .tops ≡ top ∷ others)
 
       first : First
-      first = each-first s (placed s at size) (left .0) (f .tops) (ap (each (topOf s)) (sym (left .1)) ∙ f .all)
+      first = each-fine (topOf s) (placed s at size) (left .0) (f .tops) (ap (each (topOf s)) (sym (left .1)) ∙ f .all)
 
       pub row-fine : isFine (topOf s (placed s at size)) ≡ true
       unfolding isFine
@@ -147,7 +125,7 @@ module _ (s : List ℕ) (end : ℕ) (l out : List ℕ) (row at : ℕ) (f : Rowin
 
       split : rowsFrom row (f .tops) ≡ here-rows ++ rowsFrom after (first .1)
       split =
-          ap (rowsFrom row) (first .4) ∙ rows-first row (placed s at size) (first .0) (first .1) (same-chunk s (placed s at size) (first .0) (first .2))
+          ap (rowsFrom row) (first .4) ∙ rows-first row (placed s at size) (first .0) (first .1) (same-chunk s (placed s at size) (first .0) (opened-as s (placed s at size) (first .0) (first .2)))
           ∙ ap (λ (c : Checked Top). rowsBy row (placed s at size) c ++ rowsFrom (row + 1 + length (partsBy c)) (first .1)) (sym (first .2))
 
       many : length (rowsFrom row (f .tops)) ≡ length here-rows + length (rowsFrom after (first .1))

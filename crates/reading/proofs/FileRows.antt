@@ -1,7 +1,7 @@
 -- A file that passed its check: what its frame and its top level are, its rows stored, and the answer to a read of it.
 use Prim.Native.Nat.{ℕ, _+_, _-_, _*_, _≤_}
 use mathlib.Core.Path.{_≡_, sym, _∙_, ap, ap₂}
-use mathlib.Core.Bool.{true}
+use mathlib.Core.Bool.{Bool, true}
 use mathlib.Core.List.{List, _∷_, _++_}
 use lib.ListN.{length, take, length-take}
 use lib.Seq.{sets}
@@ -11,77 +11,50 @@ use Rattle.model.specs.Bytes.{number}
 use Rattle.model.specs.CheckCode.{checkCode}
 use Rattle.model.specs.Item.{isFine, found}
 use Rattle.model.specs.Chunk.{Chunk, chunkAt}
-use Rattle.model.specs.File.{File, Top, Row, frameOf, topOf, contentsOf, rowIn, rowsFrom, rowsOf, numbersOf}
+use Rattle.model.specs.File.{File, Top, Row, topOf, contentsOf, rowIn, rowsFrom, rowsOf, numbersOf}
 use Rattle.model.specs.Answer.{readAnswer}
 use Rattle.model.specs.declared.ReadAnswer.the-variants as read
 use Rattle.chunks.specs.Kept.{chunksIn}
 use Rattle.model.proofs.Stores.{sets-append}
 use Rattle.reading.specs.Stages.{rowNumbers, fileRows}
-use Rattle.reading.proofs.OneTop.{fine-some, bind-fine}
-use Rattle.reading.proofs.Files.{long-enough, frame-chunks}
+use Rattle.reading.proofs.OneTop.{fine-some}
+use Rattle.reading.proofs.Accepted.{Made, contents-made}
 
 pub front-length : (s : List ℕ) (n : ℕ) → n ≤ length s → n ≡ length (take n s)
 front-length s n h = sym (simp length-take (omega arith))
 
--- the parts of an accepted file
-pub record Accepted (s : List ℕ) : Type 0 where
-  pub chunks : List Chunk
-  pub tops : List Top
-  pub frame : frameOf s ≡ fine chunks
-  pub listed : chunksIn s 8 (length s - 2) ≡ fine chunks
-  pub opened : each (topOf s) chunks ≡ fine tops
-  pub is : contentsOf s
-      ≡ fine (record {
-        chunk = chunkAt s 0;
-        tops = tops;
-        code = checkCode (take (length s - 2) s);
-        matches = number 2 s (length s - 2) ≡? checkCode (take (length s - 2) s);
-      })
-
 module _ (s : List ℕ) (ok : isFine (contentsOf s) ≡ true) where
-  pub accepted : Accepted s
-  unfolding contentsOf
-  accepted =
-      let f = fine-some (contentsOf s) ok in
-      let a = bind-fine (frameOf s) _ (f .0) (f .1) in
-      let b = bind-fine (each (topOf s) (a .0)) _ (f .0) (a .2) in
-      record {
-        chunks = a .0;
-        tops = b .0;
-        frame = a .1;
-        listed = frame-chunks s (a .0) (a .1);
-        opened = b .1;
-        is = f .1 ∙ sym (b .2);
-      }
+  accepted : (file : File) × (contentsOf s ≡ fine file)
+  accepted = fine-some (contentsOf s) ok
 
-  accepted-long : 10 ≤ length s
-  accepted-long = long-enough s (accepted .chunks) (accepted .frame)
+  made : Made s (accepted .0)
+  made = contents-made s (accepted .0) (accepted .1)
 
   pub accepted-two : 2 ≤ length s
-  accepted-two = omega (arith, accepted-long)
+  accepted-two = omega (arith, made .long)
 
   pub accepted-four : 4 ≤ length s
-  accepted-four = omega (arith, accepted-long)
+  accepted-four = omega (arith, made .long)
 
   pub accepted-eight : 8 ≤ length s
-  accepted-eight = omega (arith, accepted-long)
+  accepted-eight = omega (arith, made .long)
 
   pub accepted-front : length s - 2 ≤ length s
   accepted-front = omega arith
 
   pub accepted-code : length s - 2 + 2 ≤ length s
-  accepted-code = omega (arith, accepted-long)
+  accepted-code = omega (arith, made .long)
 
   pub accepted-from : 8 ≤ length s - 2
-  accepted-from = omega (arith, accepted-long)
+  accepted-from = omega (arith, made .long)
 
   pub accepted-list : isFine (chunksIn s 8 (length s - 2)) ≡ true
   unfolding isFine
-  accepted-list = ap isFine (accepted .listed)
+  accepted-list = ap isFine (made .listed)
 
-  accepted-tops : each (topOf s) (found (chunksIn s 8 (length s - 2))) ≡ fine (accepted .tops)
+  accepted-tops : each (topOf s) (found (chunksIn s 8 (length s - 2))) ≡ fine (accepted .0 .tops)
   unfolding found
-  accepted-tops = ap (λ (c : Checked (List Chunk)). each (topOf s) (found c)) (accepted .listed) ∙ accepted .opened
+  accepted-tops = ap (λ (c : Checked (List Chunk)). each (topOf s) (found c)) (made .listed) ∙ made .opens
 
   pub accepted-all : isFine (each (topOf s) (found (chunksIn s 8 (length s - 2)))) ≡ true
   unfolding isFine
@@ -90,7 +63,9 @@ module _ (s : List ℕ) (ok : isFine (contentsOf s) ≡ true) where
   -- its rows
   rows-are : fileRows (contentsOf s) ≡ rowIn 0 (chunkAt s 0) ∷ rowsFrom 1 (found (each (topOf s) (found (chunksIn s 8 (length s - 2)))))
   unfolding fileRows rowsOf found
-  rows-are = ap fileRows (accepted .is) ∙ ap (λ (c : Checked (List Top)). rowIn 0 (chunkAt s 0) ∷ rowsFrom 1 (found c)) (sym accepted-tops)
+  rows-are =
+      ap fileRows (accepted .1) ∙ ap (λ (chunk : Chunk). rowIn 0 chunk ∷ rowsFrom 1 (accepted .0 .tops)) (made .whole)
+      ∙ ap (λ (c : Checked (List Top)). rowIn 0 (chunkAt s 0) ∷ rowsFrom 1 (found c)) (sym accepted-tops)
 
   module _ (l : List ℕ) (room : 4 * length (fileRows (contentsOf s)) ≤ length l) where
     pub file-own-room : 4 ≤ length l
@@ -116,11 +91,12 @@ module _ (s : List ℕ) (ok : isFine (contentsOf s) ≡ true) where
       → read.Rows count code (held ≡? code) ≡ readAnswer (contentsOf s)
   unfolding readAnswer fileRows
   file-told count code held n c h =
-      let e = accepted .is in
-      let true-code = checkCode (take (length s - 2) s) in
+      let e = accepted .1 in
+      let rows = length (fileRows (contentsOf s)) in
       ap (λ (k : ℕ). read.Rows k code (held ≡? code)) n
-      ∙ ap₂ (λ (x y : ℕ). read.Rows (length (fileRows (contentsOf s))) x (y ≡? x)) c h
-      ∙ ap (λ (f : Checked File). read.Rows (length (fileRows f)) true-code (number 2 s (length s - 2) ≡? true-code)) e
+      ∙ ap₂ (λ (x y : ℕ). read.Rows rows x (y ≡? x)) c h
+      ∙ ap₂ (λ (x : ℕ) (b : Bool). read.Rows rows x b) (sym (made .coded)) (sym (made .matched))
+      ∙ ap (λ (f : Checked File). read.Rows (length (fileRows f)) (accepted .0 .code) (accepted .0 .matches)) e
       ∙ ap readAnswer (sym e)
 
 pub ruleset file-rows = (accepted-two, accepted-four, accepted-eight, accepted-front, accepted-code, accepted-from, accepted-list, accepted-all, file-own-room, file-room, file-filled, file-told, front-length)

@@ -7,3 +7,6 @@ pub mod TopRows
 pub mod AllRows
 pub mod FileRows
 pub mod Whole
+pub mod Accepted
+pub mod Tiling
+pub mod Finding

@@ -119,15 +119,20 @@ unfolding _>>=_
 bind-fine (fine a) rest b e = (a, refl, e)
 bind-fine (refused n p) rest b e = let z : _≡_ {A = ℕ} 0 1 = cc in absurd (omega arith)
 
--- the sub-chunks of a track are those of its list
+-- the sub-chunks of a track are those of its list, and its voice is the one it was opened in
 
 abbrev partsIn : Checked Track → List Chunk
 partsIn (fine track) = track .parts
 partsIn (refused number place) = []
 
-track-parts : (s : List ℕ) (voice : Voice) (chunk : Chunk) (track : Track) → trackOf s voice chunk ≡ fine track
+abbrev voiceIn : Voice → Checked Track → Voice
+voiceIn other (fine track) = track .voice
+voiceIn other (refused number place) = other
+
+pub track-parts : (s : List ℕ) (voice : Voice) (chunk : Chunk) (track : Track) → trackOf s voice chunk ≡ fine track
     → (isFine (fixedHolds voice s chunk) ≡ true)
     × (chunkList (isAllowed (list.Track voice)) s (chunk .place + 8 + 6) (chunk .place + 8 + chunk .size) ≡ fine (track .parts))
+    × (track .voice ≡ voice)
 unfolding trackOf
 track-parts s voice chunk track e =
     let a = then-fine _ _ track e in
@@ -137,7 +142,7 @@ track-parts s voice chunk track e =
     let f = then-fine _ _ track (d .1) in
     let g = bind-fine _ _ track (f .1) in
     let h = bind-fine _ _ track (g .2) in
-    (a .0, b .1 ∙ ap fine (ap partsIn (h .2)))
+    (a .0, b .1 ∙ ap fine (ap partsIn (h .2)), sym (ap (voiceIn voice) (h .2)))
 
 -- a track that is opened, and how many rows it brings
 

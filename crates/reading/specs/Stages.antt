@@ -4,15 +4,17 @@ use Prim.Native.Nat.{ℕ, _+_, _/_, _≤_}
 use mathlib.Core.List.{List, [], _∷_, map}
 use mathlib.Core.Option.{Option, none, some}
 use lib.ListN.{length}
-use Rattle.model.specs.Words.{if_then_else_, _<?_, sum, Checked, Checked.fine, Checked.refused, passed, _>>=_, _>>_}
+use Rattle.model.specs.Words.{if_then_else_, _<?_, _≡?_, sum, Checked, Checked.fine, Checked.refused, passed, _>>=_, _>>_}
 use Rattle.model.specs.Bytes.{number}
 use Rattle.model.specs.Chunk.{Chunk}
 use Rattle.model.specs.Track.{hasOne}
-use Rattle.model.specs.File.{File, Top, Row, opensWithContents, partsOf, rowsOf}
+use Rattle.model.specs.File.{File, Top, Top.leaf, Top.readable, Row, opensWithContents, partsOf, rowsOf}
 use Rattle.model.specs.declared.Voice.{Voice}
 use Rattle.model.specs.declared.Wanted.the-variants as wanted
 use Rattle.model.specs.declared.FoundVoice.{FoundVoice}
 use Rattle.model.specs.declared.FoundVoice.the-variants as voice
+use Rattle.model.specs.declared.FoundTrack.{FoundTrack}
+use Rattle.model.specs.declared.FoundTrack.the-variants as track
 use Rattle.model.specs.declared.Counted.{Counted}
 use Rattle.model.specs.declared.Counted.the-variants as counted
 
@@ -79,3 +81,25 @@ withRoom room outcome = do
   file ← outcome
   if room / 4 <? length (rowsOf file) then refused 15 0 else passed
   fine file
+
+-- the chunks of the top level of a file that is accepted
+unfoldable pub topsOf : Checked File → List Top
+topsOf (fine file) = file .tops
+topsOf (refused number place) = []
+
+-- the one whose row has a number, where the first has the row number k
+unfoldable pub topAt : ℕ → ℕ → List Top → Option Top
+topAt wanted k [] = none
+topAt wanted k (top ∷ tops) =
+    if wanted ≡? k then some top else
+    topAt wanted (k + topRows top) tops
+
+unfoldable pub foundTop : Checked Top → Option Top
+foundTop (fine top) = some top
+foundTop (refused number place) = none
+
+-- the track of a row, which is none where the row names something else
+unfoldable pub foundTrack : Option Top → FoundTrack
+foundTrack none = track.Nowhere
+foundTrack (some (leaf chunk)) = track.Nowhere
+foundTrack (some (readable chunk one)) = track.At (one .voice) (chunk .place) (chunk .size)

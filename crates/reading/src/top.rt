@@ -122,3 +122,21 @@ pub fn check_top(s: &[u8], place: usize, size: usize) -> Counted
         FoundVoice::Opened(voice) => check_opened(voice, s, place, size),
     }
 }
+
+// How many rows a chunk of the top level brings that passed its check.
+pub fn count_rows(s: &[u8], place: usize, size: usize) -> usize
+    requires { ⌜ place + 8 + size ≤ length (now s) ⌝ }
+    requires { ⌜ length (now s) ≤ 65536 ⌝ }
+    requires { ⌜ isFine (topOf (now s) (placed (now s) place size)) ≡ true ⌝ }
+    ensures { λ r. ⌜ Counted.Rows r ≡ topAnswer (topOf (now (s .entry)) (placed (now (s .entry)) place size)) ⌝ }
+    ensures { λ r. ⌜ r ≤ 65537 ⌝ }
+{
+    match voice_of(s, place, size) {
+        FoundVoice::Refused {
+            number: _,
+            place: _,
+        } => 1,
+        FoundVoice::Closed => 1,
+        FoundVoice::Opened(_) => 1 + count_chunks(s, place + 8 + 6, place + 8 + size),
+    }
+}

@@ -72,12 +72,24 @@ fn lose_tracks(random: &mut Random, root: &mut Chunk) {
     }
 }
 
+/// Too few bytes for a header; now and then they begin as one that stood before.
 fn stray_bytes(random: &mut Random, parent: &mut Chunk) {
     let count = random.between(1, 7);
     parent.tail = if random.percent(30) { vec![0; count] } else { random.bytes(count) };
+    if random.percent(30) {
+        if let Some(id) = earlier_id(random, parent, parent.children.len()) {
+            parent.tail = id.iter().copied().chain(random.bytes(3)).take(count).collect();
+        }
+    }
 }
 
-/// The last child reaches a little too far, or any child very far.
+/// The ID of a child before an index.
+fn earlier_id(random: &mut Random, parent: &Chunk, index: usize) -> Option<[u8; 4]> {
+    let earlier = &parent.children[..index];
+    (!earlier.is_empty()).then(|| earlier[random.below(earlier.len())].id)
+}
+
+/// The last child reaches a little too far, or any child very far; now and then it also has the ID of one before it.
 fn size_past_end(random: &mut Random, parent: &mut Chunk) {
     let count = parent.children.len();
     let huge = [0xFFFF_FFFF, 0x7FFF_FFFF, 0x8000_0000, 0xFFFF_FFF0, 0x0001_0000];
@@ -85,9 +97,11 @@ fn size_past_end(random: &mut Random, parent: &mut Chunk) {
     let index = if far { random.below(count.max(1)) } else { count.saturating_sub(1) };
     let extra = random.between(1, 3) as u32;
     let far_size = random.pick(&huge);
+    let again = if random.percent(30) { earlier_id(random, parent, index) } else { None };
     if let Some(child) = parent.children.get_mut(index) {
         let right = child.body().len() as u32;
         child.size = Some(if far { far_size } else { right + extra });
+        child.id = again.unwrap_or(child.id);
     }
 }
 

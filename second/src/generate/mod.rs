@@ -54,6 +54,19 @@ pub fn pitch_case(event: u8, shift: u8) -> Case {
     }
 }
 
+/// The read of an accepted file with that many rows, for which there is just room.
+pub fn read_of_many_chunks(rows: usize) -> Case {
+    let mut random = Random::for_index(0, rows as u64);
+    loop {
+        let draft = large::many_chunks(&mut random, rows);
+        let buffer = draft.bytes(&mut random);
+        let stated = buffer.len() as u32;
+        if crate::file::read(&buffer, stated, rows).is_ok() {
+            return Case { operation: Operation::Read, stated, row: 0, room: rows as u32, buffer };
+        }
+    }
+}
+
 /// Every event byte with every shift byte.
 pub fn all_pitches() -> impl Iterator<Item = Case> {
     (0..=255).flat_map(|event| (0..=255).map(move |shift| pitch_case(event, shift)))
