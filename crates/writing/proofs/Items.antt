@@ -18,7 +18,7 @@ use Rattle.model.specs.declared.Put.{Put}
 use Rattle.model.specs.declared.Put.the-variants.{Done, Full, Unfit}
 use Rattle.model.proofs.Tests.{flag-on, flag-off}
 use Rattle.writing.specs.Parts.{eventSize}
-use Rattle.writing.proofs.Stores.{sets-append}
+use Rattle.model.proofs.Stores.{sets-append}
 use Rattle.writing.proofs.Contents.{event-length}
 
 pub timed-length : (s : List ℕ) (duration : ℕ) (event : Event)

@@ -1,18 +1,12 @@
 -- Bytes stored one after the other, and a stretch copied: what is still to be stored makes the whole.
 use Prim.Native.Nat.{ℕ, suc, _+_, _-_, _<_, _≤_}
-use mathlib.Core.List.{List, [], _∷_, _++_}
+use mathlib.Core.List.{List, _∷_}
 use mathlib.Core.Path.{_≡_, refl, sym, _∙_, ap}
 use lib.ListN.{length, take, set, getD, length-set, length-take, length-drop}
 use lib.Seq.{sets, drop-cons}
 use native.Mathlib.Nat.{add-zero, sub-zero}
 use native.Mathlib.Omega.{arith}
 use Rattle.model.specs.Bytes.{part}
-
-pub sets-append : (l : List ℕ) (at : ℕ) (first second : List ℕ) → sets (sets l at first) (at + length first) second ≡ sets l at (first ++ second)
-sets-append l at [] second = ap (λ (n : ℕ). sets l n second) (add-zero at)
-sets-append l at (byte ∷ first) second =
-    let p : at + suc (length first) ≡ suc at + length first = omega arith in
-    ap (λ (n : ℕ). sets (sets (set l at byte) (suc at) first) n second) p ∙ sets-append (set l at byte) (suc at) first second
 
 -- a callee kept the length of what a store had left
 pub kept-set : (m l : List ℕ) (at byte : ℕ) → length m ≡ length (set l at byte) → length m ≡ length l

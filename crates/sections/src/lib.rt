@@ -1,0 +1,6 @@
+// The sections of a track, played: the word of a message, a section as a stretch of a body, and the rows of that stretch in two lent
+// tables.
+mod word;
+
+pub use word::is_message;
+pub use word::word_of;
