@@ -1,2 +1,4 @@
 pub mod Words
 pub mod InWords
+pub mod Places
+pub mod Stretches
