@@ -2,3 +2,4 @@ pub mod Words
 pub mod InWords
 pub mod Places
 pub mod Stretches
+pub mod Rowing

@@ -1,6 +1,8 @@
 // The sections of a track, played: the word of a message, a section as a stretch of a body, and the rows of that stretch in two lent
 // tables.
+mod rows;
 mod word;
 
+pub use rows::write_span;
 pub use word::is_message;
 pub use word::word_of;
