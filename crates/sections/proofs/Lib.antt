@@ -3,3 +3,5 @@ pub mod InWords
 pub mod Places
 pub mod Stretches
 pub mod Rowing
+pub mod Walking
+pub mod Nearing

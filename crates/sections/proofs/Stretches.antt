@@ -55,7 +55,7 @@ kept-since section past (item ∷ items) =
     (kept-after section (past + durationOf (item .what)) items late)))
 
 -- past a bound nothing is kept
-none-kept : (bound past : ℕ) (items : Items) → bound ≤ past → keep (below (some bound)) (onsets past items) ≡ []
+pub none-kept : (bound past : ℕ) (items : Items) → bound ≤ past → keep (below (some bound)) (onsets past items) ≡ []
 unfolding keep onsetsAfter isBelow if_then_else_
 none-kept bound past [] h = refl
 none-kept bound past (item ∷ items) h =

@@ -1,6 +1,7 @@
 // The sections of a track, played: the word of a message, a section as a stretch of a body, and the rows of that stretch in two lent
 // tables.
 mod rows;
+mod walk;
 mod word;
 
 pub use rows::write_span;
