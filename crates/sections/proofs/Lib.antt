@@ -5,3 +5,4 @@ pub mod Stretches
 pub mod Rowing
 pub mod Walking
 pub mod Nearing
+pub mod Spanning

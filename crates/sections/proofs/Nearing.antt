@@ -26,7 +26,7 @@ use Rattle.sections.proofs.Places.{Standing, stands-within}
 use Rattle.sections.proofs.Walking.{Walking, walking-starts, walking-is, walking-on}
 
 -- how many messages an item is
-unfoldable heardIn : Item Event → ℕ
+unfoldable pub heardIn : Item Event → ℕ
 heardIn (timed duration event) = messagesIn event
 heardIn endMark = 0
 
@@ -35,7 +35,7 @@ unfolding heardIn messagesIn if_then_else_
 heard-one (timed duration event) = by-test (isMessage event) (λ t. simp t (omega arith)) (λ t. simp t (omega arith))
 heard-one endMark = omega arith
 
-says : (what : Item Event) (onset : ℕ) (l : List (At Event)) → length (withMessage isMessage onset what l) ≡ heardIn what + length l
+pub says : (what : Item Event) (onset : ℕ) (l : List (At Event)) → length (withMessage isMessage onset what l) ≡ heardIn what + length l
 unfolding heardIn messagesIn withMessage if_then_else_
 says (timed duration event) onset l = by-test (isMessage event) (λ t. simp t (omega arith)) (λ t. simp t (omega arith))
 says endMark onset l = sym (zero-add (length l))
@@ -72,10 +72,10 @@ module _ (voice : Voice) (s : List ℕ) where
         ]
 
   -- an address is reached
-  abbrev Reaches : ℕ → Type 0
+  abbrev pub Reaches : ℕ → Type 0
   Reaches address = (r : Reached) × (rest : Items) × Walking voice s r rest × (r .at ≡ address)
 
-  reach : (rest : Items) (r : Reached) → Walking voice s r rest → (address : ℕ) → r .at ≤ address → isAddress all (length s) address ≡ true → Reaches address
+  pub reach : (rest : Items) (r : Reached) → Walking voice s r rest → (address : ℕ) → r .at ≤ address → isAddress all (length s) address ≡ true → Reaches address
   unfolding any _or_
   reach [] r w address h is = (r, [], w, w .stands ∙ eqb-true (length s) address (w .theres address h ∙ is))
   reach (item ∷ rest) r w address h is =
@@ -152,7 +152,7 @@ module _ (voice : Voice) (s : List ℕ) where
           let a = stands-ahead voice s (r .at) (record { place = r .at; what = what }) next e in
           let at : z .at ≡ next = ap (λ (x : Reached). x .at) q ∙ passed-at r (durationOf what) (heardIn what) next in
           let time : z .time ≤ r .time + durationOf what =
-              subst (λ (x : Reached). x .time ≤ r .time + durationOf what) (sym q) (passed-time r (durationOf what) (heardIn what) next) in (
+          subst (λ (x : Reached). x .time ≤ r .time + durationOf what) (sym q) (passed-time r (durationOf what) (heardIn what) next) in (
             record {
               rest = first .1;
               walking = subst (λ (x : Reached). Walking voice s x (first .1)) moved (on r item (first .1) w);

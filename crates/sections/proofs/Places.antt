@@ -75,7 +75,7 @@ module _ (voice : Voice) (s : List ℕ) where
       let a = stands-ahead voice s at item (st .0) (st .1) in
       let f = first-ahead time (past + durationOf (item .what)) (st .0) items (st .2) in
       let early : item .place < placeOf (length s) (since time (past + durationOf (item .what)) items .items) =
-          omega (arith, placed-at voice s at item (st .0) (st .1)) in
+      omega (arith, placed-at voice s at item (st .0) (st .1)) in
       simp (t, lt-leb) (from-since time (past + durationOf (item .what)) (st .0) items (st .2)))
       (λ t. simp t (all-from (placeOf (length s) (item ∷ items)) at (item ∷ items) st (omega (arith, place-stands at (item ∷ items) st))))
 

@@ -239,8 +239,8 @@ module _ (voice : Voice) (s : List ℕ) (span : Span) (before : ℕ) (l m : List
         row-sounds b m₁ m₂ q h p₁ p₂ =
             let left : end - row ≡ suc (end - suc row) = omega (arith, r .few) in
             let same = ap (λ (n : ℕ). next-rows before (span .start) n time (r .rest)) left
-                ∙ ap (next-rows before (span .start) (suc (end - suc row)) time) (read .1)
-                ∙ message-next before (span .start) (end - suc row) time place duration event (read .0) (sym q ∙ h) in
+            ∙ ap (next-rows before (span .start) (suc (end - suc row)) time) (read .1)
+            ∙ message-next before (span .start) (end - suc row) time place duration event (read .0) (sym q ∙ h) in
             record {
               bytes = r .bytes;
               small = r .small;

@@ -18,10 +18,10 @@ use Rattle.model.proofs.Tests.{by-test}
 use Rattle.sections.specs.Spans.{Items, onsets, messagesAfter, messagesWithin, Rest, since, spanOf, counted, spanRows}
 use Rattle.sections.proofs.Places.{Standing, from-since}
 
-abbrev within : Section → At (Item Event) → Bool
+abbrev pub within : Section → At (Item Event) → Bool
 within section at = isWithin section (at .step)
 
-abbrev below : Option ℕ → At (Item Event) → Bool
+abbrev pub below : Option ℕ → At (Item Event) → Bool
 below to at = isBelow (at .step) to
 
 -- past a section's start only the bound counts
@@ -49,7 +49,7 @@ kept-since section past (item ∷ items) =
     simp (lt-ltb, lt-leb) (kept-since section (past + durationOf (item .what)) items))
     (λ t.
     let late = ltb-false (past + durationOf (item .what)) (section .from) t in
-    simp (le-ltb, le-leb) 
+    simp (le-ltb, le-leb)
     (ap
     (λ (rest : List (At (Item Event))). if isBelow (past + durationOf (item .what)) (section .to) then record { step = past + durationOf (item .what); event = item .what } ∷ rest else rest)
     (kept-after section (past + durationOf (item .what)) items late)))
@@ -62,7 +62,7 @@ none-kept bound past (item ∷ items) h =
     let over : bound ≤ past + durationOf (item .what) = omega arith in
     simp le-ltb (none-kept bound (past + durationOf (item .what)) items over)
 
-all-kept : (l : List (At (Item Event))) → keep (below none) l ≡ l
+pub all-kept : (l : List (At (Item Event))) → keep (below none) l ≡ l
 unfolding keep isBelow if_then_else_
 all-kept [] = refl
 all-kept (at ∷ l) = ap (λ (rest : List (At (Item Event))). at ∷ rest) (all-kept l)

@@ -85,9 +85,9 @@ module _ (voice : Voice) (s : List ℕ) where
   walking-is r rest w =
       let none = none-to voice s (r .at) (r .at) rest (w .stands) (omega arith) in
       let time : timeOf all (r .at) ≡ r .time =
-          sym (w .times (r .at) (omega arith)) ∙ ap (λ (l : Items). r .time + lasting l) none ∙ add-zero (r .time) in
+      sym (w .times (r .at) (omega arith)) ∙ ap (λ (l : Items). r .time + lasting l) none ∙ add-zero (r .time) in
       let heard : length (messagesAfter 0 (itemsTo (r .at) all)) ≡ r .messages =
-          sym (w .heards (r .at) (omega arith)) ∙ ap (λ (l : Items). r .messages + length (messagesAfter (r .time) l)) none ∙ add-zero (r .messages) in
+      sym (w .heards (r .at) (omega arith)) ∙ ap (λ (l : Items). r .messages + length (messagesAfter (r .time) l)) none ∙ add-zero (r .messages) in
       rw (time, heard, w .first, w .past, w .passed) refl
 
   -- one item further

@@ -1,5 +1,5 @@
 -- A body walked up to an address.
-use Prim.Native.Nat.{ℕ, _+_, _*_, _≤_}
+use Prim.Native.Nat.{ℕ, _+_, _-_, _*_, _≤_}
 use mathlib.Core.Bool.{true}
 use mathlib.Core.Path.{_≡_}
 use lib.ListN.{length}
@@ -9,6 +9,7 @@ use Rattle.model.specs.Points.{isAddress, timeOf}
 use Rattle.model.specs.Word.{isMessage}
 use Rattle.model.specs.declared.Event.{Event}
 use Rattle.model.specs.declared.Reached.{Reached}
+use Rattle.model.specs.declared.Span.{Span}
 use Rattle.sections.specs.Spans.{Items, onsets, messagesAfter, since, placeOf}
 
 -- how many messages have an onset before a time, after a time that is past
@@ -28,6 +29,17 @@ reachedOf items size address =
       first = placeOf size (since (timeOf items address) 0 items .items);
       past = since (timeOf items address) 0 items .past;
       passed = messagesTo (timeOf items address) 0 items;
+    }
+
+-- the span from what is reached on, up to so many messages and a time
+unfoldable pub spanTo : Reached → ℕ → ℕ → Span
+spanTo reached messages time =
+    record {
+      first = reached .first;
+      past = reached .past;
+      start = reached .time;
+      messages = messages - reached .passed;
+      lasts = time - reached .time;
     }
 
 -- how many messages an event is

@@ -1,40 +1,30 @@
+-- `sections::rows::write_row` meets its contract.
 use Rattle.sections.proofs.Rowing.{word-stored}
 use borrow.Author.Needs.{needs}
 use Rattle.sections.proofs.rows.write_row.Statement.{statement}
 use Rattle.sections.proofs.rows.write_row.Tie as tie
-use Rattle.sections.proofs.rows.write_row.Reads as reads
-use Rattle.sections.proofs.rows.write_row.Lts as lts
-use Rattle.sections.proofs.word.word_of.Reads as word-of-reads
 
--- src/rows.rt:25:5
 mul-steps : tie.Need-mul-steps
 mul-steps c = search needs
 
--- src/rows.rt:25:5
 slice-write-steps : tie.Need-slice-write-steps
 slice-write-steps c = search needs
 
--- src/rows.rt:26:18
 word-of-requires : tie.Need-word-of-requires
 word-of-requires c κs = search needs
 
--- src/rows.rt:26:5
 mul-words : tie.Need-mul-words
 mul-words c = search needs
 
--- src/rows.rt:26:5
 slice-write-words : tie.Need-slice-write-words
 slice-write-words c = search needs
 
--- src/rows.rt:18:1
 same-length : tie.Need-same-length
 same-length c = search needs
 
--- src/rows.rt:18:1
 same-length-2 : tie.Need-same-length-2
 same-length-2 c = search needs
 
--- src/rows.rt:18:1
 returns : tie.Need-returns
 returns c = search (needs, word-stored)
 

@@ -1,3 +1,4 @@
+-- `sections::rows::write_span` meets its contract.
 use borrow.Author.Needs.{needs}
 use Prim.Native.Nat.{_-_}
 use lib.ListN.{length}
@@ -5,11 +6,6 @@ use native.Mathlib.Omega.{arith}
 use Rattle.sections.proofs.Rowing.{Rowing, rows-start, rowing}
 use Rattle.sections.proofs.rows.write_span.Statement.{statement}
 use Rattle.sections.proofs.rows.write_span.Tie as tie
-use Rattle.sections.proofs.rows.write_span.Reads as reads
-use Rattle.sections.proofs.rows.write_span.Lts as lts
-use Rattle.items.proofs.read_item.Reads as read-item-reads
-use Rattle.sections.proofs.rows.write_row.Reads as write-row-reads
-use Rattle.sections.proofs.word.is_message.Reads as is-message-reads
 
 abbrev Inv-loop : tie.InvT-loop
 Inv-loop voice body span before steps₀ words₀ at end row₀ place₀ time₀ steps words row place time =
@@ -18,11 +14,9 @@ Inv-loop voice body span before steps₀ words₀ at end row₀ place₀ time₀
 abbrev μ-loop : tie.MeasureT-loop
 μ-loop voice body span before steps₀ words₀ at end row₀ place₀ time₀ steps words row place time = length body - place
 
--- src/rows.rt:48:15
 add-end : tie.Need-add-end Inv-loop μ-loop
 add-end c = search (needs, rowing)
 
--- src/rows.rt:52:5
 loop-holds : tie.Need-loop-holds Inv-loop μ-loop
 loop-holds c =
     let start = c .before .before .before .before in
@@ -30,107 +24,81 @@ loop-holds c =
     rows-start _ _ _ _ _ _ (λ k. omega (arith, c .before .before .before .shared-slice-known .given k)) _ (search needs) (search needs) (search needs) (search needs)
     (search needs) (search needs)
 
--- src/rows.rt:54:13
 same-length : tie.Need-same-length Inv-loop μ-loop
 same-length c = search (needs, rowing)
 
--- src/rows.rt:54:13
 same-length-2 : tie.Need-same-length-2 Inv-loop μ-loop
 same-length-2 c = search (needs, rowing)
 
--- src/rows.rt:54:13
 returns : tie.Need-returns Inv-loop μ-loop
 returns c = search (needs, rowing)
 
--- src/rows.rt:56:15
 read-item-requires : tie.Need-read-item-requires Inv-loop μ-loop
 read-item-requires c κs = search (needs, rowing)
 
--- src/rows.rt:58:17
 enum-known-duration : tie.Need-enum-known-duration Inv-loop μ-loop
 enum-known-duration c = search (needs, rowing)
 
--- src/rows.rt:63:25
 cast-time : tie.Need-cast-time Inv-loop μ-loop
 cast-time c = search (needs, rowing)
 
--- src/rows.rt:63:17
 add-time : tie.Need-add-time Inv-loop μ-loop
 add-time c = search (needs, rowing)
 
--- src/rows.rt:64:20
 is-message-requires : tie.Need-is-message-requires Inv-loop μ-loop
 is-message-requires c κs = search (needs, rowing)
 
--- src/rows.rt:65:41
 sub-write-row : tie.Need-sub-write-row Inv-loop μ-loop
 sub-write-row c = search (needs, rowing)
 
--- src/rows.rt:65:31
 add-write-row : tie.Need-add-write-row Inv-loop μ-loop
 add-write-row c = search (needs, rowing)
 
--- src/rows.rt:65:21
 write-row-requires : tie.Need-write-row-requires Inv-loop μ-loop
 write-row-requires c κs = (search rowing, (search rowing, search rowing))
 
--- src/rows.rt:66:21
 add-row : tie.Need-add-row Inv-loop μ-loop
 add-row c = search (needs, rowing)
 
--- src/rows.rt:52:5
 loop-less : tie.Need-loop-less Inv-loop μ-loop
 loop-less c = search (needs, rowing)
 
--- src/rows.rt:52:5
 loop-again : tie.Need-loop-again Inv-loop μ-loop
 loop-again c = search (needs, rowing)
 
--- src/rows.rt:52:5
 loop-less-2 : tie.Need-loop-less-2 Inv-loop μ-loop
 loop-less-2 c = search (needs, rowing)
 
--- src/rows.rt:52:5
 loop-again-2 : tie.Need-loop-again-2 Inv-loop μ-loop
 loop-again-2 c = search (needs, rowing)
 
--- src/rows.rt:69:33
 enum-known-next : tie.Need-enum-known-next Inv-loop μ-loop
 enum-known-next c = search (needs, rowing)
 
--- src/rows.rt:52:5
 loop-less-3 : tie.Need-loop-less-3 Inv-loop μ-loop
 loop-less-3 c = search (needs, rowing)
 
--- src/rows.rt:52:5
 loop-again-3 : tie.Need-loop-again-3 Inv-loop μ-loop
 loop-again-3 c = search (needs, rowing)
 
--- src/rows.rt:76:17
 enum-told : tie.Need-enum-told Inv-loop μ-loop
 enum-told c = search (needs, rowing)
 
--- src/rows.rt:76:17
 same-length-3 : tie.Need-same-length-3 Inv-loop μ-loop
 same-length-3 c = search (needs, rowing)
 
--- src/rows.rt:76:17
 same-length-4 : tie.Need-same-length-4 Inv-loop μ-loop
 same-length-4 c = search (needs, rowing)
 
--- src/rows.rt:76:17
 returns-2 : tie.Need-returns-2 Inv-loop μ-loop
 returns-2 c = search (needs, rowing)
 
--- src/rows.rt:30:1
 same-length-5 : tie.Need-same-length-5 Inv-loop μ-loop
 same-length-5 c = search (needs, rowing)
 
--- src/rows.rt:30:1
 same-length-6 : tie.Need-same-length-6 Inv-loop μ-loop
 same-length-6 c = search (needs, rowing)
 
--- src/rows.rt:30:1
 returns-3 : tie.Need-returns-3 Inv-loop μ-loop
 returns-3 c = search (needs, rowing)
 

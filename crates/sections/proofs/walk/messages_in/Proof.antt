@@ -1,22 +1,17 @@
+-- `sections::walk::messages_in` meets its contract.
 use Rattle.sections.specs.Reaching.{messagesIn}
 use Rattle.model.proofs.Tests.{tests}
 use borrow.Author.Needs.{needs}
 use Rattle.sections.proofs.walk.messages_in.Statement.{statement}
 use Rattle.sections.proofs.walk.messages_in.Tie as tie
-use Rattle.sections.proofs.walk.messages_in.Reads as reads
-use Rattle.sections.proofs.walk.messages_in.Lts as lts
-use Rattle.sections.proofs.word.is_message.Reads as is-message-reads
 
--- src/walk.rt:19:8
 is-message-requires : tie.Need-is-message-requires
 is-message-requires c κs = search needs
 
--- src/walk.rt:20:9
 returns : tie.Need-returns
 unfolding messagesIn
 returns c = search (needs, tests)
 
--- src/walk.rt:16:1
 returns-2 : tie.Need-returns-2
 unfolding messagesIn
 returns-2 c = search (needs, tests)
