@@ -6,3 +6,4 @@ pub mod Rowing
 pub mod Walking
 pub mod Nearing
 pub mod Spanning
+pub mod Steps

@@ -25,7 +25,7 @@ abbrev pub below : Option ℕ → At (Item Event) → Bool
 below to at = isBelow (at .step) to
 
 -- past a section's start only the bound counts
-kept-after : (section : Section) (past : ℕ) (items : Items) → section .from ≤ past
+pub kept-after : (section : Section) (past : ℕ) (items : Items) → section .from ≤ past
     → keep (within section) (onsets past items) ≡ keep (below (section .to)) (onsets past items)
 unfolding keep onsetsAfter isWithin _and_
 kept-after section past [] h = refl
