@@ -1,6 +1,6 @@
 -- The walk to an address: the invariant of `walk_to`'s loop, and what each way out of it and each turn makes of it.
-use Prim.Native.Nat.{ℕ, zero, suc, _+_, _-_, _*_, _<_, _≤_}
-use mathlib.Core.Bool.{Bool, true, false, false≢true}
+use Prim.Native.Nat.{ℕ, _+_, _-_, _*_, _<_, _≤_}
+use mathlib.Core.Bool.{true, false, false≢true}
 use mathlib.Core.List.{List, [], _∷_}
 use mathlib.Core.Path.{_≡_, refl, sym, _∙_, ap, subst}
 use lib.ListN.{length}
@@ -8,7 +8,7 @@ use native.Mathlib.Nat.{zero-add}
 use native.Mathlib.Decide.{decLt}
 use native.Mathlib.Omega.{arith}
 use borrow.Author.Tests.{eqb-true}
-use Rattle.model.specs.Words.{if_then_else_, _or_, _≡?_, any, Placed, Step, Step.met, Step.stuck}
+use Rattle.model.specs.Words.{if_then_else_, _or_, _≡?_, any, Placed, Step.met, Step.stuck}
 use Rattle.model.specs.Item.{Item, Item.timed, Item.endMark, durationOf, itemAt, itemMet, itemStep, bodyOf, isFine, itemsOf}
 use Rattle.model.specs.Play.{At, withMessage}
 use Rattle.model.specs.Points.{isAddress}
@@ -19,10 +19,10 @@ use Rattle.model.specs.declared.ReadItem.{ReadItem}
 use Rattle.model.specs.declared.ReadItem.the-variants.{Timed, EndMark, Refused}
 use Rattle.model.specs.declared.Reached.{Reached}
 use Rattle.model.proofs.Tests.{by-test}
-use Rattle.items.proofs.Addresses.{isThere, placed-at, stands-ahead, none-there, passed-by}
+use Rattle.items.proofs.Addresses.{placed-at, stands-ahead, none-there, passed-by}
 use Rattle.sections.specs.Spans.{Items}
 use Rattle.sections.specs.Reaching.{reachedOf, messagesIn, passedBy, Walked}
-use Rattle.sections.proofs.Places.{Standing, stands-within}
+use Rattle.sections.proofs.Places.{stands-within}
 use Rattle.sections.proofs.Walking.{Walking, walking-starts, walking-is, walking-on}
 
 -- how many messages an item is

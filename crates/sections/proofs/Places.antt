@@ -1,11 +1,11 @@
 -- Where the items of a section's span stand in a body, and how much time is past before them. The body's elements are bytes.
 use Prim.Native.Nat.{ℕ, _+_, _*_, _<_, _≤_}
 use mathlib.Core.List.{List, [], _∷_}
-use mathlib.Core.Path.{_≡_, refl, sym, _∙_, ap, subst}
+use mathlib.Core.Path.{_≡_, refl, sym, ap, subst}
 use lib.ListN.{length}
 use native.Mathlib.Omega.{arith}
-use borrow.Author.Tests.{le-leb, lt-leb, ltb-true, ltb-false}
-use Rattle.model.specs.Words.{if_then_else_, _<?_, keep, Placed, Step, Step.met, Step.stuck}
+use borrow.Author.Tests.{le-leb, lt-leb}
+use Rattle.model.specs.Words.{if_then_else_, _<?_, keep, Placed, Step.met}
 use Rattle.model.specs.Bytes.{_!_}
 use Rattle.model.specs.Item.{Item, Item.timed, Item.endMark, durationOf, itemAt, itemMet, itemStep}
 use Rattle.model.specs.declared.Voice.{Voice}
@@ -15,7 +15,7 @@ use Rattle.model.specs.declared.ReadItem.the-variants.{Timed, EndMark, Refused}
 use Rattle.model.proofs.Tests.{by-test}
 use Rattle.model.proofs.Walks.{Stand}
 use Rattle.items.proofs.Addresses.{placed-at, stands-ahead}
-use Rattle.sections.specs.Spans.{Items, Rest, since, placeOf, itemsFrom}
+use Rattle.sections.specs.Spans.{Items, since, placeOf, itemsFrom}
 use Rattle.sections.proofs.InWords.{ItemInWord, item-in-word}
 
 abbrev pub Standing : Voice → List ℕ → ℕ → Items → Type 0

@@ -3,14 +3,14 @@
 use Prim.Native.Nat.{ℕ, zero, suc, _+_, _-_, _*_, _<_, _≤_}
 use mathlib.Core.Bool.{Bool, true, false}
 use mathlib.Core.List.{List, [], _∷_, map}
-use mathlib.Core.Path.{_≡_, refl, sym, _∙_, ap, ap₂, subst}
+use mathlib.Core.Path.{_≡_, refl, sym, _∙_, ap, subst}
 use lib.ListN.{length, take, set, length-set}
 use lib.Seq.{sets}
 use native.Mathlib.Nat.{add-zero}
 use native.Mathlib.Numerals.{add-one}
 use native.Mathlib.Omega.{arith}
 use borrow.Author.Tests.{ltb-false}
-use Rattle.model.specs.Words.{if_then_else_, _<?_, Placed, Step, Step.met, Step.stuck}
+use Rattle.model.specs.Words.{if_then_else_, _<?_, Placed, Step.met, Step.stuck}
 use Rattle.model.specs.Bytes.{_!_}
 use Rattle.model.specs.Item.{Item, Item.timed, Item.endMark, durationOf, itemAt, itemMet, itemStep, bodyOf, isFine, itemsOf}
 use Rattle.model.specs.Play.{At, Section, onsetsAfter, withMessage, messagesOf}
@@ -23,9 +23,9 @@ use Rattle.model.specs.declared.Span.{Span}
 use Rattle.model.proofs.Tests.{by-test}
 use Rattle.items.proofs.Addresses.{stands-ahead, reads-to-items}
 use Rattle.items.proofs.Standing.{body-stands}
-use Rattle.sections.specs.Spans.{Items, onsets, messagesAfter, messagesWithin, since, spanOf, counted, spanRows, stepsOf, wordsOf, Playable}
+use Rattle.sections.specs.Spans.{Items, messagesAfter, messagesWithin, since, spanOf, counted, spanRows, stepsOf, wordsOf, Playable}
 use Rattle.sections.proofs.InWords.{ItemInWord, item-in-word}
-use Rattle.sections.proofs.Places.{Standing, stands-within, first-stands, from-since, past-small}
+use Rattle.sections.proofs.Places.{Standing, first-stands, from-since, past-small}
 
 -- one store into the table of words
 pub word-stored : (l : List ℕ) (row word r : ℕ) → word ≡ r → set l row word ≡ set l row r
@@ -153,6 +153,28 @@ module _ (voice : Voice) (s : List ℕ) (span : Span) (before : ℕ) (l m : List
   pub words-over : length s ≤ place → outs ≡ sets m at (wordsOf (spanRows (itemsOf voice s) span before))
   words-over h = nothing-left _ refl (over h) .1
 
+  -- past an item that is no message
+  silent : (next later : ℕ) (items : Items) → Standing voice s next items → later ≤ 16511 * next → span .start ≤ later
+      → next-rows before (span .start) (end - row) time (r .rest) ≡ next-rows before (span .start) (end - row) later items
+      → Rowing voice s span before l m at end out outs row next later
+  silent next later items st short late same =
+      record {
+        bytes = r .bytes;
+        small = r .small;
+        rest = items;
+        stands = st;
+        short = short;
+        ahead = later-not-before (span .start) later items late;
+        few = r .few;
+        fits = r .fits;
+        same-steps = r .same-steps;
+        same-words = r .same-words;
+        room-steps = r .room-steps;
+        room-words = r .room-words;
+        steps = ap (λ (x : List (At Event)). sets out row (stepsOf x)) (sym same) ∙ r .steps;
+        words = ap (λ (x : List (At Event)). sets outs row (wordsOf x)) (sym same) ∙ r .words;
+      }
+
   -- what is read where something stands
   module _ (i : ReadItem) (here : place < length s) (is : i ≡ itemAt voice s place) where
     stands : (j : ReadItem) → i ≡ j → itemStep voice s place ≡ itemMet place j
@@ -205,23 +227,9 @@ module _ (voice : Voice) (s : List ℕ) (span : Span) (before : ℕ) (l m : List
 
       pub row-silent : (b : Bool) → b ≡ isMessage event → b ≡ false → Rowing voice s span before l m at end out outs row next (time + duration)
       row-silent b q h =
-          let same = ap (next-rows before (span .start) (end - row) time) (read .1) ∙ nop-next before (span .start) (end - row) time place duration event (read .0) (sym q ∙ h) in
-          record {
-            bytes = r .bytes;
-            small = r .small;
-            rest = read .0;
-            stands = read .2;
-            short = short-next;
-            ahead = later-not-before (span .start) (time + duration) (read .0) row-not-before;
-            few = r .few;
-            fits = r .fits;
-            same-steps = r .same-steps;
-            same-words = r .same-words;
-            room-steps = r .room-steps;
-            room-words = r .room-words;
-            steps = ap (λ (x : List (At Event)). sets out row (stepsOf x)) (sym same) ∙ r .steps;
-            words = ap (λ (x : List (At Event)). sets outs row (wordsOf x)) (sym same) ∙ r .words;
-          }
+          silent next (time + duration) (read .0) (read .2) short-next row-not-before
+          (ap (next-rows before (span .start) (end - row) time) (read .1)
+          ∙ nop-next before (span .start) (end - row) time place duration event (read .0) (sym q ∙ h))
 
       module _ (more : row ≡ end → ⊥) where
         pub row-room-steps : row < length out
@@ -271,24 +279,9 @@ module _ (voice : Voice) (s : List ℕ) (span : Span) (before : ℕ) (l m : List
       unfolding itemMet durationOf
       row-marks =
           let a = stands-ahead voice s place _ next (stands (EndMark next) e) in
-          let same = ap (next-rows before (span .start) (end - row) time) (marked .1) ∙ mark-next before (span .start) (end - row) time place (marked .0) in
           let late : span .start ≤ time + 0 = subst (NotBefore (span .start) time) (marked .1) (r .ahead) in
-          record {
-            bytes = r .bytes;
-            small = r .small;
-            rest = marked .0;
-            stands = marked .2;
-            short = omega (arith, r .short);
-            ahead = later-not-before (span .start) time (marked .0) (omega arith);
-            few = r .few;
-            fits = r .fits;
-            same-steps = r .same-steps;
-            same-words = r .same-words;
-            room-steps = r .room-steps;
-            room-words = r .room-words;
-            steps = ap (λ (x : List (At Event)). sets out row (stepsOf x)) (sym same) ∙ r .steps;
-            words = ap (λ (x : List (At Event)). sets outs row (wordsOf x)) (sym same) ∙ r .words;
-          }
+          silent next time (marked .0) (marked .2) (omega (arith, r .short)) (omega arith)
+          (ap (next-rows before (span .start) (end - row) time) (marked .1) ∙ mark-next before (span .start) (end - row) time place (marked .0))
 
     -- nothing that stands in a body that reads is refused
     module _ (number there : ℕ) (e : i ≡ Refused number there) where

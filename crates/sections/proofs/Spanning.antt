@@ -2,14 +2,14 @@
 use Prim.Native.Nat.{ℕ, _+_, _-_, _<_, _≤_}
 use mathlib.Core.Bool.{Bool, true, false}
 use mathlib.Core.List.{List, [], _∷_}
-use mathlib.Core.Option.{Option, none, some}
-use mathlib.Core.Path.{_≡_, refl, sym, _∙_, ap, subst}
+use mathlib.Core.Option.{none}
+use mathlib.Core.Path.{_≡_, refl, sym, _∙_, ap}
 use lib.ListN.{length}
 use native.Mathlib.Omega.{arith}
 use borrow.Author.Tests.{eq-eqb, le-ltb, lt-ltb, le-leb, lt-leb, ltb-true, ltb-false}
-use Rattle.model.specs.Words.{if_then_else_, _and_, _or_, _<?_, _≡?_, any, keep, sum, Placed}
-use Rattle.model.specs.Item.{Item, durationOf, lasting, bodyOf, isFine, itemsOf}
-use Rattle.model.specs.Play.{At, withMessage, messagesOf, Section, isBelow, isWithin}
+use Rattle.model.specs.Words.{if_then_else_, _and_, _or_, _<?_, _≡?_, keep, sum}
+use Rattle.model.specs.Item.{Item, lasting, bodyOf, isFine, itemsOf}
+use Rattle.model.specs.Play.{At, messagesOf, Section, isBelow, isWithin}
 use Rattle.model.specs.Points.{isAddress, timeOf}
 use Rattle.model.specs.Word.{isMessage}
 use Rattle.model.specs.Order.{between, streamSection}
@@ -24,7 +24,7 @@ use Rattle.sections.specs.Spans.{Items, onsets, messagesAfter, messagesW
 use Rattle.sections.specs.Reaching.{messagesTo, itemsTo, reachedOf, spanTo, Walked}
 use Rattle.sections.proofs.Places.{Standing, stands-within}
 use Rattle.sections.proofs.Stretches.{within, below, all-kept}
-use Rattle.sections.proofs.Nearing.{heardIn, says, reach}
+use Rattle.sections.proofs.Nearing.{says, reach}
 use Rattle.sections.proofs.Walking.{walking-starts, walking-is}
 
 -- the messages below a section's bound are those before its start and those within it

@@ -1,13 +1,12 @@
 -- THE STEPS OF A SECTION never fall, begin where it begins and end where it ends; a section with no bounds plays every message.
 use Prim.Native.Nat.{ℕ, _+_, _-_, _<_, _≤_}
-use mathlib.Core.Bool.{Bool, true, false}
+use mathlib.Core.Bool.{true}
 use mathlib.Core.List.{List, [], _∷_, map}
 use mathlib.Core.Option.{Option, none}
-use mathlib.Core.Path.{_≡_, refl, sym, _∙_, ap}
-use lib.ListN.{length}
+use mathlib.Core.Path.{_≡_, _∙_, ap}
 use native.Mathlib.Omega.{arith}
 use borrow.Author.Tests.{ltb-true}
-use Rattle.model.specs.Words.{if_then_else_, _and_, _<?_, _≤?_, keep, sum, Placed}
+use Rattle.model.specs.Words.{if_then_else_, _<?_, _≤?_, keep, sum, Placed}
 use Rattle.model.specs.Item.{Item, Item.timed, Item.endMark, durationOf, lasting}
 use Rattle.model.specs.Play.{At, onsetsAfter, withMessage, messagesOf, Section, isBelow, isWithin, sounding}
 use Rattle.model.specs.Points.{timeOf}

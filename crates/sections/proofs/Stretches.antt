@@ -1,22 +1,24 @@
 -- FROM A FILTER TO A STRETCH. The paper's rule plays each message whose onset is within a section; onsets never fall, so these are the
 -- first so many messages from some item on: the rows of a section's span are what the section sounds.
-use Prim.Native.Nat.{ℕ, zero, suc, _+_, _-_, _<_, _≤_}
+use Prim.Native.Nat.{ℕ, _+_, _-_, _<_, _≤_}
 use mathlib.Core.List.{List, [], _∷_, map}
-use mathlib.Core.Bool.{Bool, true, false}
+use mathlib.Core.Bool.{Bool, true}
 use mathlib.Core.Option.{Option, none, some}
-use mathlib.Core.Path.{_≡_, refl, sym, _∙_, ap, ap₂, subst}
-use lib.ListN.{length, take}
+use mathlib.Core.Path.{_≡_, refl, _∙_, ap}
+use lib.ListN.{length, take, length-map}
 use native.Mathlib.Omega.{arith}
 use borrow.Author.Tests.{le-leb, lt-leb, le-ltb, lt-ltb, ltb-true, ltb-false}
-use Rattle.model.specs.Words.{if_then_else_, _and_, _<?_, _≤?_, keep, Placed}
-use Rattle.model.specs.Item.{Item, Item.timed, Item.endMark, durationOf}
+use Rattle.model.specs.Words.{_and_, if_then_else_, _<?_, keep}
+use Rattle.model.specs.Item.{Item, Item.timed, Item.endMark, durationOf, bodyOf, isFine, itemsOf}
 use Rattle.model.specs.Play.{At, onsetsAfter, withMessage, messagesOf, Section, isBelow, isWithin, sounding}
 use Rattle.model.specs.Word.{isMessage}
 use Rattle.model.specs.declared.Voice.{Voice}
 use Rattle.model.specs.declared.Event.{Event}
 use Rattle.model.proofs.Tests.{by-test}
+use Rattle.items.proofs.Addresses.{reads-to-items}
+use Rattle.items.proofs.Standing.{body-stands}
 use Rattle.sections.specs.Spans.{Items, onsets, messagesAfter, messagesWithin, Rest, since, spanOf, counted, spanRows}
-use Rattle.sections.proofs.Places.{Standing, from-since}
+use Rattle.sections.proofs.Places.{from-since}
 
 abbrev pub within : Section → At (Item Event) → Bool
 within section at = isWithin section (at .step)
@@ -96,17 +98,25 @@ first-kept (some bound) past (item ∷ items) =
     simp (t, none-kept bound (past + durationOf (item .what)) items over))
 
 -- the rows of a section's span are what the section sounds
-module _ (voice : Voice) (s : List ℕ) (items : Items) (stands : Standing voice s 0 items) (section : Section) where
+module _ (voice : Voice) (s : List ℕ) (fine : isFine (bodyOf voice s) ≡ true) (section : Section) where
+  abbrev items : Items
+  items = itemsOf voice s
+
   abbrev rest : Rest
   rest = since (section .from) 0 items
 
-  pub span-messages : take (length (messagesWithin section items)) (messagesAfter (rest .past) (rest .items)) ≡ messagesWithin section items
-  span-messages = rw (kept-since section 0 items) (first-kept (section .to) (rest .past) (rest .items))
+  rest-messages : take (length (messagesWithin section items)) (messagesAfter (rest .past) (rest .items)) ≡ messagesWithin section items
+  rest-messages = rw (kept-since section 0 items) (first-kept (section .to) (rest .past) (rest .items))
 
   pub span-sounds : (before : ℕ) → spanRows items (spanOf items (length s) section) before ≡ sounding isMessage (onsets 0 items) before section
   unfolding spanRows spanOf sounding
   span-sounds before =
       ap (map (counted before (section .from)))
       (ap (λ (l : Items). take (length (messagesWithin section items)) (messagesAfter (rest .past) l))
-      (from-since voice s (section .from) 0 0 items stands)
-      ∙ span-messages)
+      (from-since voice s (section .from) 0 0 items (body-stands voice s items (reads-to-items voice s fine)))
+      ∙ rest-messages)
+
+  -- and as many as the span says
+  pub span-counts : (before : ℕ) → length (spanRows items (spanOf items (length s) section) before) ≡ spanOf items (length s) section .messages
+  unfolding spanOf sounding
+  span-counts before = ap length (span-sounds before) ∙ length-map (messagesWithin section items) (counted before (section .from))

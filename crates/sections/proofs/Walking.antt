@@ -1,16 +1,15 @@
 -- A BODY WALKED up to a place: what is known of it from the items that are left, how one item more changes that, and that at an address
 -- it is what the definition says.
-use Prim.Native.Nat.{ℕ, zero, suc, _+_, _*_, _<_, _≤_}
-use mathlib.Core.Bool.{Bool, true, false}
+use Prim.Native.Nat.{ℕ, _+_, _<_, _≤_}
+use mathlib.Core.Bool.{true}
 use mathlib.Core.List.{List, [], _∷_}
-use mathlib.Core.Path.{_≡_, refl, sym, _∙_, ap, subst}
+use mathlib.Core.Path.{_≡_, refl, sym, _∙_, ap}
 use lib.ListN.{length}
 use native.Mathlib.Nat.{add-zero, zero-add, add-assoc}
-use native.Mathlib.Decide.{decLt}
 use native.Mathlib.Omega.{arith}
 use borrow.Author.Tests.{lt-ltb, le-ltb, eqb-true, eqb-false}
-use Rattle.model.specs.Words.{if_then_else_, _or_, _<?_, _≡?_, any, keep, sum, Placed, Step, Step.met, Step.stuck}
-use Rattle.model.specs.Item.{Item, Item.timed, Item.endMark, durationOf, lasting, itemStep, bodyOf, isFine, itemsOf}
+use Rattle.model.specs.Words.{if_then_else_, _<?_, _≡?_, keep, sum, Placed}
+use Rattle.model.specs.Item.{Item, durationOf, lasting, bodyOf, isFine, itemsOf}
 use Rattle.model.specs.Play.{At, onsetsAfter, withMessage, messagesOf, isBelow}
 use Rattle.model.specs.Points.{isAddress, timeOf}
 use Rattle.model.specs.Word.{isMessage}
@@ -18,10 +17,10 @@ use Rattle.model.specs.declared.Voice.{Voice}
 use Rattle.model.specs.declared.Event.{Event}
 use Rattle.model.specs.declared.Reached.{Reached}
 use Rattle.model.proofs.Tests.{by-test}
-use Rattle.items.proofs.Addresses.{isThere, timeIn, placed-at, stands-ahead, none-there, passed-by, timed-by, reads-to-items}
+use Rattle.items.proofs.Addresses.{isThere, timeIn, placed-at, stands-ahead, passed-by, timed-by, reads-to-items}
 use Rattle.items.proofs.Standing.{body-stands}
 use Rattle.sections.specs.Spans.{Items, onsets, messagesAfter, Rest, since, placeOf}
-use Rattle.sections.specs.Reaching.{messagesTo, itemsTo, reachedOf, messagesIn, passedBy, Walked}
+use Rattle.sections.specs.Reaching.{messagesTo, itemsTo, reachedOf, passedBy}
 use Rattle.sections.proofs.Places.{Standing, place-stands}
 use Rattle.sections.proofs.Stretches.{none-kept}
 

@@ -19,8 +19,6 @@ add-end c = search (needs, rowing)
 
 loop-holds : tie.Need-loop-holds Inv-loop μ-loop
 loop-holds c =
-    let start = c .before .before .before .before in
-    let pre = start .pre in
     rows-start _ _ _ _ _ _ (λ k. omega (arith, c .before .before .before .shared-slice-known .given k)) _ (search needs) (search needs) (search needs) (search needs)
     (search needs) (search needs)
 
