@@ -266,6 +266,31 @@ pub enum Wrote {
     Unfit { index: usize },
 }
 
+// Where the bodies of a readable track stand in a file, its header's place, its voice and whether it has phrases. A track without a seek
+// chunk has a seek body of size 0.
+pub struct Bodies {
+    pub header: usize,
+    pub voice: Voice,
+    pub phrases: bool,
+    pub sequence: usize,
+    pub sequence_size: usize,
+    pub seek: usize,
+    pub seek_size: usize,
+}
+
+// The track that a row names, where it names a readable one.
+pub enum OpenedTrack {
+    At(Bodies),
+    Nowhere,
+}
+
+// The span of each letter of an order list, how many messages they play together, and how long they last.
+pub struct Plan {
+    pub spans: [Span; 256],
+    pub count: usize,
+    pub end: u64,
+}
+
 // The answer to a read: so many rows, the computed check code and whether the file holds it.
 pub enum ReadAnswer {
     Rows {

@@ -1,9 +1,11 @@
 // The probe: takes a row of cases on standard input and writes the answer to each, as text, on standard output, with a line that says
 // whether lent memory outside the answer was kept. A case is one byte for the operation, four numbers of four bytes (stated length, row
-// number, room, length of the buffer), and the buffer. It answers `r` (read) and `t` (pitch). A case that is cut, too large or of an
-// unknown operation ends the run with the line `bad case`.
+// number, room, length of the buffer), and the buffer. It answers `r` (read), `p` (play) and `t` (pitch). A case that is cut, too large
+// or of an unknown operation ends the run with the line `bad case`.
+mod messages;
 mod rows;
 
+use messages::answer_play;
 use model::Pitch;
 use rows::answer_read;
 use text::flush;
@@ -62,6 +64,9 @@ fn is_known(operation: u8) -> bool {
     if operation == b'r' {
         return true;
     }
+    if operation == b'p' {
+        return true;
+    }
     operation == b't'
 }
 
@@ -86,35 +91,45 @@ fn is_good(case: Case, buffer: &mut [u8]) -> bool {
     io::read_full(0, &mut buffer[..size]) == size
 }
 
-// The answer to a good case, with room for as many rows as it states.
-fn answer(page: &mut [u8], used: usize, case: Case, buffer: &[u8], table: &mut [u32]) -> usize {
-    if case.operation == b'r' {
-        return answer_read(page, used, buffer, case.stated, table);
-    }
-    let used = answer_pitch(page, used, case.stated, case.row);
-    put(page, used, b"-- kept\n")
-}
-
-// The part of the buffer and of the table that a good case lends.
-fn answer_lent(
+// The answer to a good case: it lends the buffer and of each table as much as the case states.
+fn answer(
     page: &mut [u8],
     used: usize,
     case: Case,
     buffer: &[u8],
     table: &mut [u32],
+    steps: &mut [u64],
 ) -> usize {
     let size = case.size as usize;
-    if buffer.len() < size {
+    let room = case.room as usize;
+    if buffer.len() < size || table.len() / 4 < room || steps.len() < room {
         return used;
     }
-    let room = case.room as usize * 4;
-    if table.len() < room {
-        return used;
+    if case.operation == b'r' {
+        return answer_read(
+            page,
+            used,
+            &buffer[..size],
+            case.stated,
+            &mut table[..4 * room],
+        );
     }
-    answer(page, used, case, &buffer[..size], &mut table[..room])
+    if case.operation == b'p' {
+        return answer_play(
+            page,
+            used,
+            &buffer[..size],
+            case.stated,
+            case.row,
+            &mut steps[..room],
+            &mut table[..room],
+        );
+    }
+    let used = answer_pitch(page, used, case.stated, case.row);
+    put(page, used, b"-- kept\n")
 }
 
-fn run(page: &mut [u8], buffer: &mut [u8], table: &mut [u32]) {
+fn run(page: &mut [u8], buffer: &mut [u8], table: &mut [u32], steps: &mut [u64]) {
     let mut used: usize = 0;
     let mut turns: u32 = 0;
     while turns < 1_000_000_000 {
@@ -129,7 +144,7 @@ fn run(page: &mut [u8], buffer: &mut [u8], table: &mut [u32]) {
             flush(page, used);
             return;
         }
-        used = answer_lent(page, used, case, buffer, table);
+        used = answer(page, used, case, buffer, table, steps);
     }
     flush(page, used);
 }
@@ -138,5 +153,6 @@ fn main() {
     let mut page = [0u8; 65536];
     let mut buffer = [0u8; 70000];
     let mut table = [0u32; 280000];
-    run(&mut page, &mut buffer, &mut table);
+    let mut steps = [0u64; 70000];
+    run(&mut page, &mut buffer, &mut table, &mut steps);
 }

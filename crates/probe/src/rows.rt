@@ -9,7 +9,7 @@ use text::put_refusal;
 // What the table holds before a read.
 const BLANK: u32 = 0xA5A5A5A5;
 
-fn blank(table: &mut [u32]) {
+pub fn blank(table: &mut [u32]) {
     let mut i: usize = 0;
     while i < table.len() {
         table[i] = BLANK;
@@ -17,12 +17,9 @@ fn blank(table: &mut [u32]) {
     }
 }
 
-// Whether the table is as it was from its first so many rows on.
-fn is_kept(table: &[u32], rows: usize) -> bool {
-    if table.len() / 4 < rows {
-        return false;
-    }
-    let mut i: usize = 4 * rows;
+// Whether the table is as it was past its first so many numbers.
+pub fn is_kept(table: &[u32], numbers: usize) -> bool {
+    let mut i = numbers;
     while i < table.len() {
         if table[i] != BLANK {
             return false;
@@ -32,7 +29,7 @@ fn is_kept(table: &[u32], rows: usize) -> bool {
     true
 }
 
-fn put_kept(page: &mut [u8], used: usize, kept: bool) -> usize {
+pub fn put_kept(page: &mut [u8], used: usize, kept: bool) -> usize {
     if kept {
         return put(page, used, b"-- kept\n");
     }
@@ -78,6 +75,14 @@ fn put_rows(page: &mut [u8], used: usize, table: &[u32], rows: usize) -> usize {
     now
 }
 
+// Whether the table has so many rows, and is as it was past them.
+fn is_whole(table: &[u32], rows: usize) -> bool {
+    if table.len() / 4 < rows {
+        return false;
+    }
+    is_kept(table, 4 * rows)
+}
+
 fn put_accepted(
     page: &mut [u8],
     used: usize,
@@ -92,7 +97,7 @@ fn put_accepted(
     let used = put_hex(page, used, code as u64, 4);
     let used = put_verdict(page, used, matches);
     let used = put_rows(page, used, table, count);
-    put_kept(page, used, is_kept(table, count))
+    put_kept(page, used, is_whole(table, count))
 }
 
 fn put_refused(page: &mut [u8], used: usize, table: &[u32], number: u32, place: usize) -> usize {

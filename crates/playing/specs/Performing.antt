@@ -1,0 +1,103 @@
+-- What the functions of this crate speak of beside the definitions of the model: the bodies of a track, the spans of its letters, and
+-- what a play order comes to.
+use Prim.Native.Nat.{ℕ, _+_, _<_, _≤_}
+use mathlib.Core.Path.{_≡_}
+use mathlib.Core.Bool.{Bool, true}
+use mathlib.Core.List.{List, [], _∷_, _++_, map}
+use mathlib.Core.Option.{Option, none, some}
+use lib.ListN.{length, getD}
+use Rattle.model.specs.Words.{if_then_else_, _<?_, _≡?_, isSome, Placed, Checked, Checked.fine, Checked.refused, passed, _>>_}
+use Rattle.model.specs.Bytes.{_!_, part}
+use Rattle.model.specs.Item.{isFine, found, bodyOf, itemsOf}
+use Rattle.model.specs.Seek.{Entry, seekOf, phraseOf}
+use Rattle.model.specs.Play.{At, Section, Tune, tuneOf}
+use Rattle.model.specs.Word.{isMessage}
+use Rattle.model.specs.Order.{phraseSection}
+use Rattle.model.specs.Track.{Track, pointWidth, pointsOf}
+use Rattle.model.specs.File.{File, contentsOf, trackAt}
+use Rattle.model.specs.declared.Voice.{Voice}
+use Rattle.model.specs.declared.Event.{Event}
+use Rattle.model.specs.declared.Span.{Span}
+use Rattle.model.specs.declared.Plan.{Plan}
+use Rattle.model.specs.declared.Bodies.{Bodies}
+use Rattle.model.specs.declared.OpenedTrack.{OpenedTrack}
+use Rattle.model.specs.declared.OpenedTrack.the-variants as track
+use Rattle.sections.specs.Spans.{Items, spanOf, spanRows}
+
+-- the entries of a seek body; a track without a seek chunk has none
+unfoldable pub entriesSaid : Bool → List ℕ → List (Placed Entry)
+entriesSaid phrases seek = if length seek ≡? 0 then [] else found (seekOf (pointWidth phrases) seek)
+
+-- A sequence body and a seek body that keep the rules.
+pub record Ready (voice : Voice) (phrases : Bool) (body seek : List ℕ) : Type 0 where
+  pub small : length body ≤ 65536
+  pub few : length seek ≤ 65536
+  pub reads : isFine (bodyOf voice body) ≡ true
+  pub formed : 0 < length seek → isFine (seekOf (pointWidth phrases) seek) ≡ true
+  pub holds : pointsOf phrases (itemsOf voice body) (length body) (entriesSaid phrases seek) ≡ passed
+
+-- THE BODIES of a track stand in the file and keep the rules.
+pub record Open (s : List ℕ) (bodies : Bodies) (track : Track) : Type 0 where
+  pub header : bodies .header ≡ track .header
+  pub phrases : bodies .phrases ≡ track .phrases
+  pub sequence : bodies .sequence + bodies .sequence-size ≤ length s
+  pub seek : bodies .seek + bodies .seek-size ≤ length s
+  pub ready : Ready (bodies .voice) (bodies .phrases) (part s (bodies .sequence) (bodies .sequence-size)) (part s (bodies .seek) (bodies .seek-size))
+  pub items : track .items ≡ itemsOf (bodies .voice) (part s (bodies .sequence) (bodies .sequence-size))
+  pub entries : track .entries ≡ entriesSaid (bodies .phrases) (part s (bodies .seek) (bodies .seek-size))
+
+abbrev pub Opens : List ℕ → Option Track → OpenedTrack → Type 0
+Opens s (some track) (track.At bodies) = Open s bodies track
+Opens s none (track.At bodies) = ⊥
+Opens s (some track) track.Nowhere = ⊥
+Opens s none track.Nowhere = Unit
+
+-- THE LETTERS of an order list
+
+abbrev pub noSpan : Span
+noSpan = record { first = 0; past = 0; start = 0; messages = 0; lasts = 0 }
+
+abbrev pub spanAt : List Span → ℕ → Span
+spanAt spans letter = getD spans letter noSpan
+
+unfoldable pub letterSection : Items → List (Placed Entry) → ℕ → Section
+letterSection items entries letter = phraseSection items (phraseOf letter entries)
+
+unfoldable pub letterSpan : Items → ℕ → List (Placed Entry) → ℕ → Span
+letterSpan items size entries letter = spanOf items size (letterSection items entries letter)
+
+-- every letter of a list has a phrase
+abbrev pub Named : List (Placed Entry) → List ℕ → Type 0
+Named entries letters = (i : ℕ) → i < length letters → isSome (phraseOf (letters ! i) entries) ≡ true
+
+-- the spans of a table are those of the letters of a list
+abbrev pub Spanned : Items → ℕ → List (Placed Entry) → List Span → List ℕ → Type 0
+Spanned items size entries spans letters = (i : ℕ) → i < length letters → spanAt spans (letters ! i) ≡ letterSpan items size entries (letters ! i)
+
+-- how many messages the spans of letters play together, and how long they last
+unfoldable pub messagesTogether : List Span → List ℕ → ℕ
+messagesTogether spans [] = 0
+messagesTogether spans (letter ∷ letters) = spanAt spans letter .messages + messagesTogether spans letters
+
+unfoldable pub lastsTogether : List Span → List ℕ → ℕ
+lastsTogether spans [] = 0
+lastsTogether spans (letter ∷ letters) = spanAt spans letter .lasts + lastsTogether spans letters
+
+pub record Planned (items : Items) (size : ℕ) (entries : List (Placed Entry)) (letters : List ℕ) (plan : Plan) : Type 0 where
+  pub spans : Spanned items size entries (plan .spans) letters
+  pub count : plan .count ≡ messagesTogether (plan .spans) letters
+  pub end : plan .end ≡ lastsTogether (plan .spans) letters
+
+-- the rows of letters, one span after the other, where so much has been played before
+unfoldable pub rowsTogether : Items → List Span → ℕ → List ℕ → List (At Event)
+rowsTogether items spans before [] = []
+rowsTogether items spans before (letter ∷ letters) =
+    spanRows items (spanAt spans letter) before ++ rowsTogether items spans (before + spanAt spans letter .lasts) letters
+
+-- PLAYED: 17 where there is no order, then 15, at the track's header
+unfoldable pub fitted : ℕ → ℕ → Tune Event → Checked (Tune Event)
+fitted header room tune = if room <? length (tune .messages) then refused 15 header else fine tune
+
+unfoldable pub played : ℕ → ℕ → Items → Option (List Section) → Checked (Tune Event)
+played header room items none = refused 17 header
+played header room items (some sections) = fitted header room (tuneOf isMessage (map (λ item. item .what) items) sections)

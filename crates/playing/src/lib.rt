@@ -1,0 +1,9 @@
+// Plays a track: the bodies of the track that a row names (16), its section or its order list (17), and its messages at their steps in
+// two lent tables (15).
+mod bodies;
+mod operation;
+mod phrases;
+mod stream;
+
+pub use bodies::open_track;
+pub use operation::play;
