@@ -266,16 +266,20 @@ pub enum Wrote {
     Unfit { index: usize },
 }
 
+// So many bytes from a place on.
+pub struct Extent {
+    pub place: usize,
+    pub size: usize,
+}
+
 // Where the bodies of a readable track stand in a file, its header's place, its voice and whether it has phrases. A track without a seek
 // chunk has a seek body of size 0.
 pub struct Bodies {
     pub header: usize,
     pub voice: Voice,
     pub phrases: bool,
-    pub sequence: usize,
-    pub sequence_size: usize,
-    pub seek: usize,
-    pub seek_size: usize,
+    pub sequence: Extent,
+    pub seek: Extent,
 }
 
 // The track that a row names, where it names a readable one.

@@ -20,9 +20,10 @@ use Rattle.model.specs.declared.Event.{Event}
 use Rattle.model.specs.declared.Span.{Span}
 use Rattle.model.specs.declared.Plan.{Plan}
 use Rattle.model.specs.declared.Bodies.{Bodies}
+use Rattle.model.specs.declared.Extent.{Extent}
 use Rattle.model.specs.declared.OpenedTrack.{OpenedTrack}
-use Rattle.model.specs.declared.OpenedTrack.the-variants as track
-use Rattle.sections.specs.Spans.{Items, spanOf, spanRows}
+use Rattle.model.specs.declared.OpenedTrack.the-variants as opened
+use Rattle.sections.specs.Spans.{Items, spanOf, spanRows, Playable}
 
 -- the entries of a seek body; a track without a seek chunk has none
 unfoldable pub entriesSaid : Bool → List ℕ → List (Placed Entry)
@@ -36,21 +37,34 @@ pub record Ready (voice : Voice) (phrases : Bool) (body seek : List ℕ) : Type 
   pub formed : 0 < length seek → isFine (seekOf (pointWidth phrases) seek) ≡ true
   pub holds : pointsOf phrases (itemsOf voice body) (length body) (entriesSaid phrases seek) ≡ passed
 
+abbrev pub bytesIn : List ℕ → Extent → List ℕ
+bytesIn s extent = part s (extent .place) (extent .size)
+
+unfoldable pub trackIn : Checked Track → Option Track
+trackIn (fine track) = some track
+trackIn (refused number place) = none
+
+-- 16: the readable track that a row number names
+unfoldable pub trackNamed : Checked File → ℕ → Option Track
+trackNamed (fine file) row = trackAt file row
+trackNamed (refused number place) row = none
+
 -- THE BODIES of a track stand in the file and keep the rules.
 pub record Open (s : List ℕ) (bodies : Bodies) (track : Track) : Type 0 where
   pub header : bodies .header ≡ track .header
   pub phrases : bodies .phrases ≡ track .phrases
-  pub sequence : bodies .sequence + bodies .sequence-size ≤ length s
-  pub seek : bodies .seek + bodies .seek-size ≤ length s
-  pub ready : Ready (bodies .voice) (bodies .phrases) (part s (bodies .sequence) (bodies .sequence-size)) (part s (bodies .seek) (bodies .seek-size))
-  pub items : track .items ≡ itemsOf (bodies .voice) (part s (bodies .sequence) (bodies .sequence-size))
-  pub entries : track .entries ≡ entriesSaid (bodies .phrases) (part s (bodies .seek) (bodies .seek-size))
+  pub sequence : bodies .sequence .place + bodies .sequence .size ≤ length s
+  pub seek : bodies .seek .place + bodies .seek .size ≤ length s
+  pub ready : Ready (bodies .voice) (bodies .phrases) (bytesIn s (bodies .sequence)) (bytesIn s (bodies .seek))
+  pub body : track .body ≡ bytesIn s (bodies .sequence)
+  pub items : track .items ≡ itemsOf (bodies .voice) (bytesIn s (bodies .sequence))
+  pub entries : track .entries ≡ entriesSaid (bodies .phrases) (bytesIn s (bodies .seek))
 
 abbrev pub Opens : List ℕ → Option Track → OpenedTrack → Type 0
-Opens s (some track) (track.At bodies) = Open s bodies track
-Opens s none (track.At bodies) = ⊥
-Opens s (some track) track.Nowhere = ⊥
-Opens s none track.Nowhere = Unit
+Opens s (some track) (opened.At bodies) = Open s bodies track
+Opens s none (opened.At bodies) = ⊥
+Opens s (some track) opened.Nowhere = ⊥
+Opens s none opened.Nowhere = Unit
 
 -- THE LETTERS of an order list
 
@@ -73,6 +87,9 @@ Named entries letters = (i : ℕ) → i < length letters → isSome (phraseOf (l
 -- the spans of a table are those of the letters of a list
 abbrev pub Spanned : Items → ℕ → List (Placed Entry) → List Span → List ℕ → Type 0
 Spanned items size entries spans letters = (i : ℕ) → i < length letters → spanAt spans (letters ! i) ≡ letterSpan items size entries (letters ! i)
+
+abbrev pub AllPlayable : Items → ℕ → List Span → List ℕ → Type 0
+AllPlayable items size spans letters = (i : ℕ) → i < length letters → Playable items size (spanAt spans (letters ! i))
 
 -- how many messages the spans of letters play together, and how long they last
 unfoldable pub messagesTogether : List Span → List ℕ → ℕ

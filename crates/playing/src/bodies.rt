@@ -7,8 +7,9 @@ ghost use Rattle.model.specs.Item.{isFine};
 ghost use Rattle.model.specs.Track.{trackOf};
 ghost use Rattle.model.specs.File.{contentsOf};
 ghost use Rattle.reading.specs.Stages.{placed};
-ghost use Rattle.playing.specs.Performing.{Opens, OpensRow};
+ghost use Rattle.playing.specs.Performing.{Opens, trackIn, trackNamed};
 use model::Bodies;
+use model::Extent;
 use model::FoundChunk;
 use model::FoundTrack;
 use model::OpenedTrack;
@@ -19,39 +20,42 @@ use model::Voice;
 fn open_at(voice: Voice, s: &[u8], place: usize, size: usize) -> OpenedTrack
     requires { ⌜ (place + 8 + size ≤ length (now s)) × (length (now s) ≤ 65536) ⌝ }
     requires { ⌜ isFine (trackOf (now s) voice (placed (now s) place size)) ≡ true ⌝ }
-    ensures { λ r. ⌜ Opens (now (s .entry)) (trackOf (now (s .entry)) voice (placed (now (s .entry)) place size)) r ⌝ }
+    ensures { λ r. ⌜ Opens (now (s .entry)) (trackIn (trackOf (now (s .entry)) voice (placed (now (s .entry)) place size))) r ⌝ }
 {
     let start = place + 8 + 6;
     let end = place + 8 + size;
     let phrases = s[place + 8 + 1] == 1;
     let FoundChunk::At {
-        place: sequence,
+        place: sequence_header,
         size: sequence_size,
     } = tracks::find_part(Part::Sequence, voice, s, start, end)
     else {
         return OpenedTrack::Nowhere;
     };
+    let sequence = Extent {
+        place: sequence_header + 8,
+        size: sequence_size,
+    };
     match tracks::find_part(Part::Seek, voice, s, start, end) {
         FoundChunk::At {
-            place: seek,
+            place: seek_header,
             size: seek_size,
         } => OpenedTrack::At(Bodies {
             header: place,
             voice,
             phrases,
-            sequence: sequence + 8,
-            sequence_size,
-            seek: seek + 8,
-            seek_size,
+            sequence,
+            seek: Extent {
+                place: seek_header + 8,
+                size: seek_size,
+            },
         }),
         FoundChunk::Nowhere => OpenedTrack::At(Bodies {
             header: place,
             voice,
             phrases,
-            sequence: sequence + 8,
-            sequence_size,
-            seek: 0,
-            seek_size: 0,
+            sequence,
+            seek: Extent { place: 0, size: 0 },
         }),
     }
 }
@@ -59,7 +63,7 @@ fn open_at(voice: Voice, s: &[u8], place: usize, size: usize) -> OpenedTrack
 pub fn open_track(s: &[u8], row: usize) -> OpenedTrack
     requires { ⌜ length (now s) ≤ 65536 ⌝ }
     requires { ⌜ isFine (contentsOf (now s)) ≡ true ⌝ }
-    ensures { λ r. ⌜ OpensRow (now (s .entry)) row r ⌝ }
+    ensures { λ r. ⌜ Opens (now (s .entry)) (trackNamed (contentsOf (now (s .entry))) row) r ⌝ }
 {
     match reading::find_track(s, row) {
         FoundTrack::At { voice, place, size } => open_at(voice, s, place, size),

@@ -1,6 +1,7 @@
 // Plays a track: the bodies of the track that a row names (16), its section or its order list (17), and its messages at their steps in
 // two lent tables (15).
 mod bodies;
+mod letters;
 mod operation;
 mod phrases;
 mod stream;

@@ -9,10 +9,10 @@ use model::OpenedTrack;
 use model::PlayAnswer;
 
 fn play_bodies(s: &[u8], bodies: Bodies, steps: &mut [u64], words: &mut [u32]) -> PlayAnswer {
-    let sequence = bodies.sequence;
-    let sequence_end = sequence + bodies.sequence_size;
-    let seek = bodies.seek;
-    let seek_end = seek + bodies.seek_size;
+    let sequence = bodies.sequence.place;
+    let sequence_end = sequence + bodies.sequence.size;
+    let seek = bodies.seek.place;
+    let seek_end = seek + bodies.seek.size;
     if bodies.phrases {
         return play_phrases(
             bodies.voice,

@@ -1,0 +1,36 @@
+use borrow.Author.Needs.{needs}
+use Rattle.playing.proofs.bodies.open_track.Statement.{statement}
+use Rattle.playing.proofs.bodies.open_track.Tie as tie
+use Rattle.playing.proofs.bodies.open_track.Reads as reads
+use Rattle.playing.proofs.bodies.open_track.Lts as lts
+use Rattle.playing.proofs.bodies.open_at.Reads as open-at-reads
+use Rattle.reading.proofs.find_track.Reads as find-track-reads
+
+-- src/bodies.rt:68:11
+find-track-requires : tie.Need-find-track-requires
+find-track-requires c κs = search needs
+
+-- src/bodies.rt:69:26
+enum-known-voice : tie.Need-enum-known-voice
+enum-known-voice c = search needs
+
+-- src/bodies.rt:69:50
+open-at-requires : tie.Need-open-at-requires
+open-at-requires c κs = ?
+
+-- src/bodies.rt:70:32
+enum-told : tie.Need-enum-told
+enum-told c = search needs
+
+-- src/bodies.rt:63:1
+returns : tie.Need-returns
+returns c = ?
+
+-- src/bodies.rt:63:1
+returns-2 : tie.Need-returns-2
+returns-2 c = ?
+
+pub open-track-spec : {M : Type 1} → statement M
+open-track-spec =
+    tie.close
+    (tie.spec find-track-requires enum-known-voice open-at-requires enum-told returns returns-2)

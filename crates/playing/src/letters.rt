@@ -1,0 +1,99 @@
+// The letters of an order list: the span of each phrase that they name is found once, its messages and its length are added letter by
+// letter, and only then are rows written.
+ghost use mathlib.Core.Path.{_≡_};
+ghost use mathlib.Core.Bool.{true};
+ghost use Prim.Native.Nat.{_≤_};
+ghost use lib.ListN.{length};
+ghost use lib.Seq.{sets};
+ghost use Rattle.model.specs.Words.{isSome};
+ghost use Rattle.model.specs.Item.{isFine, bodyOf, itemsOf};
+ghost use Rattle.model.specs.Seek.{phraseOf};
+ghost use Rattle.sections.specs.Spans.{stepsOf, wordsOf};
+ghost use Rattle.playing.specs.Performing.{Ready, entriesSaid, letterSpan, noSpan, Named, Planned, AllPlayable, messagesTogether, rowsTogether};
+use model::FoundPhrase;
+use model::Plan;
+use model::Span;
+use model::Voice;
+
+fn no_span() -> Span
+    ensures { λ r. ⌜ r ≡ noSpan ⌝ }
+{
+    Span {
+        first: 0,
+        past: 0,
+        start: 0,
+        messages: 0,
+        lasts: 0,
+    }
+}
+
+// The span of a letter's phrase.
+fn span_of_letter(voice: Voice, body: &[u8], seek: &[u8], letter: u8) -> Span
+    requires { ⌜ Ready voice true (now body) (now seek) ⌝ }
+    requires { ⌜ isSome (phraseOf letter (entriesSaid true (now seek))) ≡ true ⌝ }
+    ensures { λ r. ⌜ r ≡ letterSpan (itemsOf voice (now (body .entry))) (length (now (body .entry))) (entriesSaid true (now (seek .entry))) letter ⌝ }
+{
+    match seek::find_phrase(true, seek, letter) {
+        FoundPhrase::Between { start, stop } => {
+            sections::span_between(voice, body, start as usize, stop as usize)
+        }
+        FoundPhrase::Nowhere => no_span(),
+    }
+}
+
+// The spans of all letters of a list, and what they come to together.
+pub fn plan_letters(voice: Voice, body: &[u8], seek: &[u8], letters: &[u8]) -> Plan
+    requires { ⌜ Ready voice true (now body) (now seek) ⌝ }
+    requires { ⌜ length (now letters) ≤ 65536 ⌝ }
+    requires { ⌜ Named (entriesSaid true (now seek)) (now letters) ⌝ }
+    ensures { λ r. ⌜ Planned (itemsOf voice (now (body .entry))) (length (now (body .entry))) (entriesSaid true (now (seek .entry))) (now (letters .entry)) r ⌝ }
+{
+    let mut spans = [no_span(); 256];
+    let mut known = [false; 256];
+    let mut count: usize = 0;
+    let mut end: u64 = 0;
+    let mut i: usize = 0;
+    while i < letters.len() {
+        let letter = letters[i];
+        let slot = letter as usize;
+        if !known[slot] {
+            spans[slot] = span_of_letter(voice, body, seek, letter);
+            known[slot] = true;
+        }
+        let span = spans[slot];
+        count += span.messages;
+        end += span.lasts;
+        i += 1;
+    }
+    Plan { spans, count, end }
+}
+
+// The rows of all letters of a list, one section after the other.
+pub fn write_letters(
+    voice: Voice,
+    body: &[u8],
+    spans: [Span; 256],
+    letters: &[u8],
+    steps: &mut [u64],
+    words: &mut [u32],
+)
+    requires { ⌜ length (now body) ≤ 65536 ⌝ }
+    requires { ⌜ isFine (bodyOf voice (now body)) ≡ true ⌝ }
+    requires { ⌜ length (now letters) ≤ 65536 ⌝ }
+    requires { ⌜ AllPlayable (itemsOf voice (now body)) (length (now body)) spans (now letters) ⌝ }
+    requires { ⌜ messagesTogether spans (now letters) ≤ length (now steps) ⌝ }
+    requires { ⌜ messagesTogether spans (now letters) ≤ length (now words) ⌝ }
+    ensures { λ _. ⌜ now (steps .exit) ≡ sets (now (steps .entry)) 0 (stepsOf (rowsTogether (itemsOf voice (now (body .entry))) spans 0 (now (letters .entry)))) ⌝ }
+    ensures { λ _. ⌜ now (words .exit) ≡ sets (now (words .entry)) 0 (wordsOf (rowsTogether (itemsOf voice (now (body .entry))) spans 0 (now (letters .entry)))) ⌝ }
+{
+    let mut at: usize = 0;
+    let mut before: u64 = 0;
+    let mut i: usize = 0;
+    while i < letters.len() {
+        let span = spans[letters[i] as usize];
+        sections::write_span(voice, body, span, before, steps, words, at);
+        at += span.messages;
+        before += span.lasts;
+        i += 1;
+    }
+}
