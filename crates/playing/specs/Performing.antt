@@ -6,17 +6,19 @@ use mathlib.Core.Bool.{Bool, true}
 use mathlib.Core.List.{List, [], _∷_, _++_, map}
 use mathlib.Core.Option.{Option, none, some}
 use lib.ListN.{length, getD}
-use Rattle.model.specs.Words.{if_then_else_, _<?_, _≡?_, isSome, Placed, Checked, Checked.fine, Checked.refused, passed, _>>_}
+use Rattle.model.specs.Words.{if_then_else_, _<?_, _≡?_, isSome, Placed, Checked, Checked.fine, Checked.refused, passed, _>>=_}
 use Rattle.model.specs.Bytes.{_!_, part}
 use Rattle.model.specs.Item.{isFine, found, bodyOf, itemsOf}
 use Rattle.model.specs.Seek.{Entry, seekOf, phraseOf}
 use Rattle.model.specs.Play.{At, Section, Tune, tuneOf}
 use Rattle.model.specs.Word.{isMessage}
-use Rattle.model.specs.Order.{phraseSection}
+use Rattle.model.specs.Order.{phraseSection, orderOf, playOrder}
 use Rattle.model.specs.Track.{Track, pointWidth, pointsOf}
 use Rattle.model.specs.File.{File, contentsOf, trackAt}
+use Rattle.model.specs.Answer.{named}
 use Rattle.model.specs.declared.Voice.{Voice}
 use Rattle.model.specs.declared.Event.{Event}
+use Rattle.model.specs.declared.Points.{Points}
 use Rattle.model.specs.declared.Span.{Span}
 use Rattle.model.specs.declared.Plan.{Plan}
 use Rattle.model.specs.declared.Bodies.{Bodies}
@@ -29,12 +31,16 @@ use Rattle.sections.specs.Spans.{Items, spanOf, spanRows, Playable}
 unfoldable pub entriesSaid : Bool → List ℕ → List (Placed Entry)
 entriesSaid phrases seek = if length seek ≡? 0 then [] else found (seekOf (pointWidth phrases) seek)
 
+-- a seek body, where there is one, has good form
+abbrev pub Formed : Bool → List ℕ → Type 0
+Formed phrases seek = 0 < length seek → isFine (seekOf (pointWidth phrases) seek) ≡ true
+
 -- A sequence body and a seek body that keep the rules.
 pub record Ready (voice : Voice) (phrases : Bool) (body seek : List ℕ) : Type 0 where
   pub small : length body ≤ 65536
   pub few : length seek ≤ 65536
   pub reads : isFine (bodyOf voice body) ≡ true
-  pub formed : 0 < length seek → isFine (seekOf (pointWidth phrases) seek) ≡ true
+  pub formed : Formed phrases seek
   pub holds : pointsOf phrases (itemsOf voice body) (length body) (entriesSaid phrases seek) ≡ passed
 
 abbrev pub bytesIn : List ℕ → Extent → List ℕ
@@ -50,12 +56,16 @@ trackNamed (fine file) row = trackAt file row
 trackNamed (refused number place) row = none
 
 -- THE BODIES of a track stand in the file and keep the rules.
-pub record Open (s : List ℕ) (bodies : Bodies) (track : Track) : Type 0 where
-  pub header : bodies .header ≡ track .header
-  pub phrases : bodies .phrases ≡ track .phrases
+pub record Inside (s : List ℕ) (bodies : Bodies) : Type 0 where
   pub sequence : bodies .sequence .place + bodies .sequence .size ≤ length s
   pub seek : bodies .seek .place + bodies .seek .size ≤ length s
   pub ready : Ready (bodies .voice) (bodies .phrases) (bytesIn s (bodies .sequence)) (bytesIn s (bodies .seek))
+
+pub record Open (s : List ℕ) (bodies : Bodies) (track : Track) : Type 0 where
+  pub inside : Inside s bodies
+  pub header : track .header ≡ bodies .header
+  pub voice : track .voice ≡ bodies .voice
+  pub phrases : track .phrases ≡ bodies .phrases
   pub body : track .body ≡ bytesIn s (bodies .sequence)
   pub items : track .items ≡ itemsOf (bodies .voice) (bytesIn s (bodies .sequence))
   pub entries : track .entries ≡ entriesSaid (bodies .phrases) (bytesIn s (bodies .seek))
@@ -67,6 +77,17 @@ Opens s (some track) opened.Nowhere = ⊥
 Opens s none opened.Nowhere = Unit
 
 -- THE LETTERS of an order list
+
+-- where the letters that are played end in the list
+unfoldable pub lastPosition : Points → ℕ
+lastPosition points = if points .stops then points .stop else points .letters
+
+-- an order list stands in its seek body, and its points are positions in it
+pub record Listed (seek : List ℕ) (points : Points) : Type 0 where
+  pub inside : points .order + points .letters ≤ length seek
+  pub small : length seek ≤ 65536
+  pub from : points .start ≤ lastPosition points
+  pub to : lastPosition points ≤ points .letters
 
 abbrev pub noSpan : Span
 noSpan = record { first = 0; past = 0; start = 0; messages = 0; lasts = 0 }
@@ -118,3 +139,15 @@ fitted header room tune = if room <? length (tune .messages) then refused 15 hea
 unfoldable pub played : ℕ → ℕ → Items → Option (List Section) → Checked (Tune Event)
 played header room items none = refused 17 header
 played header room items (some sections) = fitted header room (tuneOf isMessage (map (λ item. item .what) items) sections)
+
+-- what a track plays, from its bodies
+unfoldable pub heard : Voice → Bool → ℕ → ℕ → List ℕ → List ℕ → Checked (Tune Event)
+heard voice phrases header room body seek =
+    played header room (itemsOf voice body) (orderOf phrases (itemsOf voice body) (entriesSaid phrases seek))
+
+-- what the track that a row of a file names plays
+unfoldable pub rowPlayed : ℕ → Checked File → ℕ → Checked (Tune Event)
+rowPlayed room outcome row = do
+  file ← outcome
+  track ← named (trackAt file row)
+  played (track .header) room (track .items) (playOrder track)

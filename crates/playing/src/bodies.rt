@@ -7,7 +7,7 @@ ghost use Rattle.model.specs.Item.{isFine};
 ghost use Rattle.model.specs.Track.{trackOf};
 ghost use Rattle.model.specs.File.{contentsOf};
 ghost use Rattle.reading.specs.Stages.{placed};
-ghost use Rattle.playing.specs.Performing.{Opens, trackIn, trackNamed};
+ghost use Rattle.playing.specs.Performing.{bytesIn, Opens, trackIn, trackNamed};
 use model::Bodies;
 use model::Extent;
 use model::FoundChunk;
@@ -15,6 +15,16 @@ use model::FoundTrack;
 use model::OpenedTrack;
 use model::Part;
 use model::Voice;
+
+// The bytes of an extent, and no more.
+pub fn bytes_in<'a>(s: &'a [u8], extent: Extent) -> &'a [u8]
+    requires { ⌜ (extent .place + extent .size ≤ length (now s)) × (length (now s) ≤ 65536) ⌝ }
+    ensures { λ r. ⌜ now r ≡ bytesIn (now (s .entry)) extent ⌝ }
+{
+    let start = extent.place;
+    let end = start + extent.size;
+    &s[start..end]
+}
 
 // The track whose header is at a place and whose body has a size.
 fn open_at(voice: Voice, s: &[u8], place: usize, size: usize) -> OpenedTrack

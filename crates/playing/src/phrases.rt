@@ -1,4 +1,11 @@
 // Phrases in the order of their list.
+ghost use mathlib.Core.Path.{_≡_};
+ghost use mathlib.Core.Bool.{true};
+ghost use Prim.Native.Nat.{_+_, _-_, min};
+ghost use lib.ListN.{length};
+ghost use Rattle.model.specs.Bytes.{part};
+ghost use Rattle.model.specs.Answer.{playAnswer, stepsTable, wordsTable};
+ghost use Rattle.playing.specs.Performing.{Ready, Listed, lastPosition, heard};
 use super::letters::plan_letters;
 use super::letters::write_letters;
 use super::stream::points_of;
@@ -7,15 +14,23 @@ use model::PlayAnswer;
 use model::Points;
 use model::Voice;
 
-// The letters that are played: of the order list those from its start up to but without its stop.
-fn letters_played<'a>(seek: &'a [u8], points: Points) -> &'a [u8] {
-    let from = points.order + points.start as usize;
+fn last_position(points: Points) -> usize
+    ensures { λ r. ⌜ r ≡ lastPosition points ⌝ }
+{
     if points.stops {
-        let stop = points.order + points.stop as usize;
-        return &seek[from..stop];
+        return points.stop as usize;
     }
-    let stop = points.order + points.letters;
-    &seek[from..stop]
+    points.letters
+}
+
+// The letters that are played: of the order list those from its start up to but without its stop.
+fn letters_played<'a>(seek: &'a [u8], points: Points) -> &'a [u8]
+    requires { ⌜ Listed (now seek) points ⌝ }
+    ensures { λ r. ⌜ now r ≡ part (now (seek .entry)) (points .order + points .start) (lastPosition points - points .start) ⌝ }
+{
+    let from = points.order + points.start as usize;
+    let to = points.order + last_position(points);
+    &seek[from..to]
 }
 
 pub fn play_phrases(
@@ -25,7 +40,12 @@ pub fn play_phrases(
     seek: &[u8],
     steps: &mut [u64],
     words: &mut [u32],
-) -> PlayAnswer {
+) -> PlayAnswer
+    requires { ⌜ Ready voice true (now body) (now seek) ⌝ }
+    ensures { λ r. ⌜ r ≡ playAnswer (heard voice true header (min (length (now (steps .entry))) (length (now (words .entry)))) (now (body .entry)) (now (seek .entry))) ⌝ }
+    ensures { λ _. ⌜ now (steps .exit) ≡ stepsTable (now (steps .entry)) (heard voice true header (min (length (now (steps .entry))) (length (now (words .entry)))) (now (body .entry)) (now (seek .entry))) ⌝ }
+    ensures { λ _. ⌜ now (words .exit) ≡ wordsTable (now (words .entry)) (heard voice true header (min (length (now (steps .entry))) (length (now (words .entry)))) (now (body .entry)) (now (seek .entry))) ⌝ }
+{
     let points = points_of(true, seek);
     if !points.ordered {
         return PlayAnswer::Refused {

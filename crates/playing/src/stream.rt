@@ -1,11 +1,26 @@
 // A stream: one section, between its points.
+ghost use mathlib.Core.Path.{_≡_};
+ghost use mathlib.Core.Bool.{false};
+ghost use Prim.Native.Nat.{_≤_, min};
+ghost use lib.ListN.{length};
+ghost use Rattle.model.specs.Words.{_otherwise_};
+ghost use Rattle.model.specs.Item.{itemsOf};
+ghost use Rattle.model.specs.Seek.{pointsSaid, startPoint, stopPoint};
+ghost use Rattle.model.specs.Order.{streamSection};
+ghost use Rattle.model.specs.Answer.{playAnswer, stepsTable, wordsTable};
+ghost use Rattle.sections.specs.Spans.{spanOf};
+ghost use Rattle.playing.specs.Performing.{entriesSaid, Formed, Ready, heard};
 use model::PlayAnswer;
 use model::Points;
 use model::Span;
 use model::Voice;
 
 // What the seek body says of points and order list; a track without one has none.
-pub fn points_of(phrases: bool, seek: &[u8]) -> Points {
+pub fn points_of(phrases: bool, seek: &[u8]) -> Points
+    requires { ⌜ length (now seek) ≤ 65536 ⌝ }
+    requires { ⌜ Formed phrases (now seek) ⌝ }
+    ensures { λ r. ⌜ r ≡ pointsSaid (entriesSaid phrases (now (seek .entry))) ⌝ }
+{
     if seek.len() == 0 {
         return Points {
             starts: false,
@@ -20,14 +35,21 @@ pub fn points_of(phrases: bool, seek: &[u8]) -> Points {
     seek::read_points(phrases, seek)
 }
 
-fn span_of_stream(voice: Voice, body: &[u8], points: Points) -> Span {
+// From its start point, or its head, to its stop point, or without an end.
+fn span_of_stream(voice: Voice, body: &[u8], seek: &[u8]) -> Span
+    requires { ⌜ Ready voice false (now body) (now seek) ⌝ }
+    ensures { λ r. ⌜ r ≡ spanOf (itemsOf voice (now (body .entry))) (length (now (body .entry))) (streamSection (itemsOf voice (now (body .entry))) (startPoint (entriesSaid false (now (seek .entry))) otherwise 0) (stopPoint (entriesSaid false (now (seek .entry))))) ⌝ }
+{
+    let points = points_of(false, seek);
     if points.stops {
         return sections::span_between(voice, body, points.start as usize, points.stop as usize);
     }
     sections::span_from(voice, body, points.start as usize)
 }
 
-pub fn shorter(steps: &[u64], words: &[u32]) -> usize {
+pub fn shorter(steps: &[u64], words: &[u32]) -> usize
+    ensures { λ r. ⌜ r ≡ min (length (now (steps .entry))) (length (now (words .entry))) ⌝ }
+{
     if steps.len() < words.len() {
         return steps.len();
     }
@@ -41,8 +63,13 @@ pub fn play_stream(
     seek: &[u8],
     steps: &mut [u64],
     words: &mut [u32],
-) -> PlayAnswer {
-    let span = span_of_stream(voice, body, points_of(false, seek));
+) -> PlayAnswer
+    requires { ⌜ Ready voice false (now body) (now seek) ⌝ }
+    ensures { λ r. ⌜ r ≡ playAnswer (heard voice false header (min (length (now (steps .entry))) (length (now (words .entry)))) (now (body .entry)) (now (seek .entry))) ⌝ }
+    ensures { λ _. ⌜ now (steps .exit) ≡ stepsTable (now (steps .entry)) (heard voice false header (min (length (now (steps .entry))) (length (now (words .entry)))) (now (body .entry)) (now (seek .entry))) ⌝ }
+    ensures { λ _. ⌜ now (words .exit) ≡ wordsTable (now (words .entry)) (heard voice false header (min (length (now (steps .entry))) (length (now (words .entry)))) (now (body .entry)) (now (seek .entry))) ⌝ }
+{
+    let span = span_of_stream(voice, body, seek);
     if shorter(steps, words) < span.messages {
         return PlayAnswer::Refused {
             number: 15,

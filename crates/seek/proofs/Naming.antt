@@ -113,7 +113,7 @@ others-hold all at (phrase letter from to) h = refl
 others-hold all at (order letters) h = absurd (h refl)
 
 -- the letters of all order lists among some entries
-abbrev listsHold : Entries → Entries → Checked (Unit {0})
+abbrev pub listsHold : Entries → Entries → Checked (Unit {0})
 listsHold all rest = allPass (λ entry. lettersHold all (entry .place) (entry .what)) rest
 
 no-list : (all rest : Entries) → Without 0x534C rest → listsHold all rest ≡ passed
@@ -126,10 +126,10 @@ unfolding _>>_
 and-passes (fine u) = refl
 and-passes (refused number place) = refl
 
-record Ordered (s : List ℕ) (all rest : Entries) : Type 0 where
-  is : listsHold all rest ≡ lettersNamed all (orderPlace rest otherwise 0) (orderList rest otherwise [])
-  stands : (orderList rest otherwise []) ≡ part s (orderPlace rest otherwise 0) (length (orderList rest otherwise []))
-  fits : (orderPlace rest otherwise 0) + length (orderList rest otherwise []) ≤ length s
+pub record Ordered (s : List ℕ) (all rest : List (Placed Entry)) : Type 0 where
+  pub is : listsHold all rest ≡ lettersNamed all (orderPlace rest otherwise 0) (orderList rest otherwise [])
+  pub stands : (orderList rest otherwise []) ≡ part s (orderPlace rest otherwise 0) (length (orderList rest otherwise []))
+  pub fits : (orderPlace rest otherwise 0) + length (orderList rest otherwise []) ≤ length s
 
 ordered-none : (s : List ℕ) (all : Entries) → Ordered s all []
 unfolding allPass orderPlace orderList firstSaid _otherwise_ lettersNamed
@@ -150,7 +150,7 @@ ordered-more s all at (Order letters next) rest m o =
 ordered-more s all at Refused rest m o = absurd (false≢true (sym (m .whole)))
 
 module _ (phrases : Bool) (s : List ℕ) (fine-form : isFine (seekOf (pointWidth phrases) s) ≡ true) (points : Points) (said : points ≡ pointsSaid (allEntries phrases s)) where
-  ordered : Ordered s (allEntries phrases s) (allEntries phrases s)
+  pub ordered : Ordered s (allEntries phrases s) (allEntries phrases s)
   ordered = walk-all (Ordered s (allEntries phrases s)) phrases s (ordered-none s (allEntries phrases s)) (ordered-more s (allEntries phrases s)) fine-form
 
   order-said : points .order ≡ (orderPlace (allEntries phrases s) otherwise 0)

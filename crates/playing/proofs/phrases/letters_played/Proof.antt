@@ -3,58 +3,39 @@ use Rattle.playing.proofs.phrases.letters_played.Statement.{statement}
 use Rattle.playing.proofs.phrases.letters_played.Tie as tie
 use Rattle.playing.proofs.phrases.letters_played.Reads as reads
 use Rattle.playing.proofs.phrases.letters_played.Lts as lts
+use Rattle.playing.proofs.phrases.last_position.Reads as last-position-reads
 
--- src/phrases.rt:12:31
+-- src/phrases.rt:31:31
 cast-from : tie.Need-cast-from
 cast-from c = search needs
 
--- src/phrases.rt:12:16
+-- src/phrases.rt:31:16
 add-from : tie.Need-add-from
-add-from c = ?
+add-from c = search needs
 
--- src/phrases.rt:14:35
-cast-stop : tie.Need-cast-stop
-cast-stop c = search needs
+-- src/phrases.rt:32:29
+last-position-requires : tie.Need-last-position-requires
+last-position-requires c κs = search needs
 
--- src/phrases.rt:14:20
-add-stop : tie.Need-add-stop
-add-stop c = ?
+-- src/phrases.rt:32:14
+add-to : tie.Need-add-to
+add-to c = search needs
 
--- src/phrases.rt:15:16
+-- src/phrases.rt:33:5
 sub-result : tie.Need-sub-result
-sub-result c = ?
+sub-result c = search needs
 
--- src/phrases.rt:15:16
+-- src/phrases.rt:33:5
 part-result-start : tie.Need-part-result-start
-part-result-start c = ?
+part-result-start c = search needs
 
--- src/phrases.rt:15:16
+-- src/phrases.rt:33:5
 part-result-end : tie.Need-part-result-end
-part-result-end c = ?
+part-result-end c = search needs
 
--- src/phrases.rt:15:9
+-- src/phrases.rt:27:1
 returns : tie.Need-returns
-returns c = search needs
-
--- src/phrases.rt:17:16
-add-stop-2 : tie.Need-add-stop-2
-add-stop-2 c = ?
-
--- src/phrases.rt:18:5
-sub-result-2 : tie.Need-sub-result-2
-sub-result-2 c = ?
-
--- src/phrases.rt:18:5
-part-result-start-2 : tie.Need-part-result-start-2
-part-result-start-2 c = ?
-
--- src/phrases.rt:18:5
-part-result-end-2 : tie.Need-part-result-end-2
-part-result-end-2 c = ?
-
--- src/phrases.rt:11:1
-returns-2 : tie.Need-returns-2
-returns-2 c = search needs
+returns c = ?
 
 pub letters-played-spec : {M : Type 1} → statement M
 letters-played-spec =
@@ -62,14 +43,9 @@ letters-played-spec =
     (tie.spec
     cast-from
     add-from
-    cast-stop
-    add-stop
+    last-position-requires
+    add-to
     sub-result
     part-result-start
     part-result-end
-    returns
-    add-stop-2
-    sub-result-2
-    part-result-start-2
-    part-result-end-2
-    returns-2)
+    returns)

@@ -3,56 +3,50 @@ use Rattle.playing.proofs.stream.play_stream.Statement.{statement}
 use Rattle.playing.proofs.stream.play_stream.Tie as tie
 use Rattle.playing.proofs.stream.play_stream.Reads as reads
 use Rattle.playing.proofs.stream.play_stream.Lts as lts
-use Rattle.playing.proofs.stream.points_of.Reads as points-of-reads
 use Rattle.playing.proofs.stream.shorter.Reads as shorter-reads
 use Rattle.playing.proofs.stream.span_of_stream.Reads as span-of-stream-reads
 use Rattle.sections.proofs.write_span.Reads as write-span-reads
 
--- src/stream.rt:45:44
-points-of-requires : tie.Need-points-of-requires
-points-of-requires c κs = search needs
-
--- src/stream.rt:45:9
+-- src/stream.rt:72:9
 span-of-stream-requires : tie.Need-span-of-stream-requires
 span-of-stream-requires c κs = search needs
 
--- src/stream.rt:46:8
+-- src/stream.rt:73:8
 shorter-requires : tie.Need-shorter-requires
 shorter-requires c κs = search needs
 
--- src/stream.rt:47:9
+-- src/stream.rt:74:9
 same-length : tie.Need-same-length
 same-length c = search needs
 
--- src/stream.rt:47:9
+-- src/stream.rt:74:9
 same-length-2 : tie.Need-same-length-2
 same-length-2 c = search needs
 
--- src/stream.rt:47:9
+-- src/stream.rt:74:9
 returns : tie.Need-returns
-returns c = search needs
+returns c = ?
 
--- src/stream.rt:52:5
+-- src/stream.rt:79:5
 write-span-requires : tie.Need-write-span-requires
 write-span-requires c κs = ?
 
--- src/stream.rt:37:1
+-- src/stream.rt:59:1
 same-length-3 : tie.Need-same-length-3
 same-length-3 c = search needs
 
--- src/stream.rt:37:1
+-- src/stream.rt:59:1
 same-length-4 : tie.Need-same-length-4
 same-length-4 c = search needs
 
--- src/stream.rt:37:1
+-- src/stream.rt:59:1
 returns-2 : tie.Need-returns-2
-returns-2 c = search needs
+returns-2 c = ?
 
 pub play-stream-spec : {M : Type 1} → statement M
 play-stream-spec =
     tie.close
     (tie.spec
-    points-of-requires
     span-of-stream-requires
     shorter-requires
     same-length

@@ -1,0 +1,95 @@
+-- A stream: what its seek body says, and that its points are addresses.
+use Prim.Native.Nat.{ℕ, _+_, _-_, _<_, _≤_}
+use mathlib.Core.Path.{_≡_, refl, sym, _∙_, ap, subst}
+use mathlib.Core.Bool.{Bool, true, false, not, false≢true}
+use mathlib.Core.List.{List, [], _∷_}
+use mathlib.Core.Option.{Option, none, some}
+use lib.ListN.{length}
+use native.Mathlib.Omega.{arith}
+use borrow.Author.Tests.{ltb-false, eq-eqb, ne-eqb}
+use Rattle.model.specs.Words.{if_then_else_, _and_, _or_, _<?_, _≡?_, any, isSome, _otherwise_, _orElse_, firstSaid, Placed, Checked, Checked.fine, Checked.refused, passed, _>>_, allPass}
+use Rattle.model.specs.Item.{Item, isFine, found, bodyOf, itemsOf, itemStep}
+use Rattle.model.specs.Seek.{Entry, Entry.start, Entry.stop, Entry.phrase, Entry.order, seekOf, startIn, stopIn, startPoint, stopPoint, orderList, orderPlace, pointsSaid}
+use Rattle.model.specs.Points.{isAddress, timeOf, pointHolds, pointsHold}
+use Rattle.model.specs.Order.{between, streamSection}
+use Rattle.model.specs.Track.{pointWidth, pointsOf}
+use Rattle.model.specs.declared.Voice.{Voice}
+use Rattle.model.specs.declared.Event.{Event}
+use Rattle.model.specs.declared.Points.{Points}
+use Rattle.model.specs.declared.Span.{Span}
+use Rattle.model.proofs.Tests.{by-test, and-left, and-right, if-true}
+use Rattle.sections.specs.Spans.{spanOf}
+use Rattle.playing.specs.Performing.{entriesSaid, Formed, Ready}
+
+-- WHAT A SEEK BODY SAYS
+
+module _ (phrases : Bool) (seek : List ℕ) where
+  pub points-none : length seek ≡ 0
+      → record { starts = false; start = 0; stops = false; stop = 0; ordered = false; order = 0; letters = 0 } ≡ pointsSaid (entriesSaid phrases seek)
+  unfolding entriesSaid if_then_else_ pointsSaid startPoint stopPoint orderList orderPlace firstSaid isSome _otherwise_
+  points-none h = simp eq-eqb
+
+  module _ (some-bytes : length seek ≡ 0 → ⊥) where
+    pub points-formed : Formed phrases seek → isFine (seekOf (pointWidth phrases) seek) ≡ true
+    points-formed formed = formed (omega arith)
+
+    pub points-some : (points : Points) → points ≡ pointsSaid (found (seekOf (pointWidth phrases) seek)) → points ≡ pointsSaid (entriesSaid phrases seek)
+    unfolding entriesSaid if_then_else_
+    points-some points e = e ∙ ap pointsSaid (sym (simp ne-eqb))
+
+pub ruleset saying = (points-none, points-formed, points-some)
+
+-- THE POINTS OF A STREAM
+
+-- what an entry says that passed its check
+first-by : {A B : Type 0} (test : A → Checked (Unit {0})) (says : A → Option B) (entry : A) (entries : List A) (b : B)
+    → (allPass test entries ≡ passed → firstSaid says entries ≡ some b → (one : A) × (says one ≡ some b) × (test one ≡ passed))
+    → (c : Checked (Unit {0})) → test entry ≡ c → (o : Option B) → says entry ≡ o → (c >> allPass test entries) ≡ passed
+    → (o orElse firstSaid says entries) ≡ some b → (one : A) × (says one ≡ some b) × (test one ≡ passed)
+unfolding _>>_ _orElse_
+first-by test says entry entries b others (fine u) p none q rest k = others rest k
+first-by test says entry entries b others (fine u) p (some d) q rest k = (entry, q ∙ k, p)
+first-by test says entry entries b others (refused n place) p o q rest k = let z : _≡_ {A = ℕ} 0 1 = cc in absurd (omega arith)
+
+pub said-by : {A B : Type 0} (test : A → Checked (Unit {0})) (says : A → Option B) (entries : List A) (b : B) → allPass test entries ≡ passed
+    → firstSaid says entries ≡ some b → (entry : A) × (says entry ≡ some b) × (test entry ≡ passed)
+unfolding allPass firstSaid
+said-by test says [] b all e = let z : _≡_ {A = ℕ} 0 1 = cc in absurd (omega arith)
+said-by test says (entry ∷ entries) b all e =
+    first-by test says entry entries b (said-by test says entries b) (test entry) refl (says entry) refl all e
+
+-- an entry that keeps the rules
+kept : (holds : Bool) (place : ℕ) → (if holds then passed else refused 13 place) ≡ passed → holds ≡ true
+unfolding if_then_else_
+kept true place e = refl
+kept false place e = let z : _≡_ {A = ℕ} 0 1 = cc in absurd (omega arith)
+
+start-is : (entry : Entry) (value : ℕ) → startIn entry ≡ some value → entry ≡ start value
+unfolding startIn
+start-is (start v) value e = let same : v ≡ value = cc in ap start same
+start-is (stop v) value e = let z : _≡_ {A = ℕ} 0 1 = cc in absurd (omega arith)
+start-is (phrase letter from to) value e = let z : _≡_ {A = ℕ} 0 1 = cc in absurd (omega arith)
+start-is (order letters) value e = let z : _≡_ {A = ℕ} 0 1 = cc in absurd (omega arith)
+
+stop-is : (entry : Entry) (value : ℕ) → stopIn entry ≡ some value → entry ≡ stop value
+unfolding stopIn
+stop-is (start v) value e = let z : _≡_ {A = ℕ} 0 1 = cc in absurd (omega arith)
+stop-is (stop v) value e = let same : v ≡ value = cc in ap stop same
+stop-is (phrase letter from to) value e = let z : _≡_ {A = ℕ} 0 1 = cc in absurd (omega arith)
+stop-is (order letters) value e = let z : _≡_ {A = ℕ} 0 1 = cc in absurd (omega arith)
+
+module _ (address point : ℕ → Bool) (entries : List (Placed Entry)) (all : pointsHold address point entries ≡ passed) where
+  pub start-holds : (value : ℕ) → startPoint entries ≡ some value → point value ≡ true
+  unfolding pointsHold startPoint pointHolds
+  start-holds value e =
+      let s = said-by _ _ entries value all e in
+      let k = kept _ (s .0 .place) (s .2) in
+      rw (start-is (s .0 .what) value (s .1)) at k
+
+  pub stop-holds : (value : ℕ) → stopPoint entries ≡ some value → (point value ≡ true) × ((startPoint entries otherwise 0) ≤ value)
+  unfolding pointsHold stopPoint pointHolds
+  stop-holds value e =
+      let s = said-by _ _ entries value all e in
+      let k = kept _ (s .0 .place) (s .2) in
+      let h : (point value and not (value <? (startPoint entries otherwise 0))) ≡ true = rw (stop-is (s .0 .what) value (s .1)) at k in
+      (and-left _ _ h, ltb-false value _ (not-on (and-right (point value) _ h)))

@@ -1,0 +1,20 @@
+use borrow.Author.Needs.{needs}
+use Rattle.playing.proofs.phrases.last_position.Statement.{statement}
+use Rattle.playing.proofs.phrases.last_position.Tie as tie
+use Rattle.playing.proofs.phrases.last_position.Reads as reads
+use Rattle.playing.proofs.phrases.last_position.Lts as lts
+
+-- src/phrases.rt:21:16
+cast-result : tie.Need-cast-result
+cast-result c = search needs
+
+-- src/phrases.rt:21:9
+returns : tie.Need-returns
+returns c = ?
+
+-- src/phrases.rt:17:1
+returns-2 : tie.Need-returns-2
+returns-2 c = ?
+
+pub last-position-spec : {M : Type 1} → statement M
+last-position-spec = tie.close (tie.spec cast-result returns returns-2)
