@@ -77,10 +77,8 @@ module _ (voice : Voice) (s : List ℕ) where
       let early : item .place < length s = omega (arith, placed-at voice s at item (st .0) (st .1)) in
       simp lt-ltb (ap (λ (rest : Items). item ∷ rest) (all-to (st .0) items (st .2)))
 
-  same-but-messages : (first past start lasts m n : ℕ) → m ≡ n
-      → _≡_ {A = Span} (record { first = first; past = past; start = start; messages = m; lasts = lasts }) (record { first = first; past = past; start = start; messages = n; lasts = lasts })
-  same-but-messages first past start lasts m n e =
-      ap (λ (k : ℕ). record { first = first; past = past; start = start; messages = k; lasts = lasts }) e
+  abbrev spanWith : ℕ → ℕ → ℕ → ℕ → ℕ → Span
+  spanWith first past start lasts messages = record { first = first; past = past; start = start; messages = messages; lasts = lasts }
 
   module _ (fine : isFine (bodyOf voice s) ≡ true) where
     stand : Standing voice s 0 all
@@ -116,7 +114,8 @@ module _ (voice : Voice) (s : List ℕ) where
       unfolding isBelow between timeOf
       apart =
           counted-apart (between (timeOf all start) (timeOf all stop))
-          (λ onset h. let under : onset < timeOf all stop = omega (arith, times-grow start stop all ordered) in lt-ltb onset (timeOf all stop) under) (onsets 0 all)
+          (λ onset h. let under : onset < timeOf all stop = omega (arith, times-grow start stop all ordered) in lt-ltb onset (timeOf all stop) under)
+          (onsets 0 all)
 
       pub passed-falls-not : from .passed ≤ to .passed
       unfolding reachedOf
@@ -124,13 +123,10 @@ module _ (voice : Voice) (s : List ℕ) where
 
       pub between-is : (r : Span) → r ≡ spanTo from (to .passed) (to .time) → r ≡ spanOf all (length s) (between (timeOf all start) (timeOf all stop))
       unfolding reachedOf spanTo spanOf between
-      between-is r e = e ∙ rw (there, after) (same-but-messages _ _ _ _ _ _ (omega (arith, apart)))
+      between-is r e = e ∙ rw (there, after) (ap (spanWith _ _ _ _) (omega (arith, apart)))
 
     -- to the body's end
-    module _ (fine : isFine (bodyOf voice s) ≡ true) (is : isAddress all (length s) start ≡ true) (to : Reached) (after : to ≡ reachedOf all (length s) (length s)) where
-      pub time-falls-not-on : from .time ≤ to .time
-      time-falls-not-on = time-falls-not (length s) to after (address-within fine start is)
-
+    module _ (fine : isFine (bodyOf voice s) ≡ true) (to : Reached) (after : to ≡ reachedOf all (length s) (length s)) where
       on-apart : length (messagesAfter 0 all) ≡ messagesTo (timeOf all start) 0 all + length (messagesWithin (streamSection all start none) all)
       unfolding isBelow streamSection
       on-apart =
@@ -143,6 +139,6 @@ module _ (voice : Voice) (s : List ℕ) where
 
       pub stream-is : (r : Span) → r ≡ spanTo from (to .messages) (to .time) → r ≡ spanOf all (length s) (streamSection all start none)
       unfolding reachedOf spanTo spanOf streamSection timeOf
-      stream-is r e = e ∙ rw (there, after, all-to 0 all (stand fine)) (same-but-messages _ _ _ _ _ _ (omega (arith, on-apart)))
+      stream-is r e = e ∙ rw (there, after, all-to 0 all (stand fine)) (ap (spanWith _ _ _ _) (omega (arith, on-apart)))
 
-pub ruleset spanning = (head-walked, size-is-address, at-start, address-within, time-falls-not, passed-falls-not, between-is, time-falls-not-on, passed-falls-not-on, stream-is)
+pub ruleset spanning = (head-walked, size-is-address, at-start, address-within, time-falls-not, passed-falls-not, between-is, passed-falls-not-on, stream-is)

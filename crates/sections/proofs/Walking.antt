@@ -120,7 +120,10 @@ module _ (voice : Voice) (s : List ℕ) where
         let u = w .heards address (omega (arith, ahead)) in
         let v = says (r .time + duration) (messagesAfter (r .time + duration) (itemsTo address rest)) in
         add-assoc (r .messages) heard _
-        ∙ ap (λ (n : ℕ). r .messages + n) (sym v ∙ ap (λ (d : ℕ). length (withMessage isMessage (r .time + d) (item .what) (messagesAfter (r .time + d) (itemsTo address rest)))) (sym takes) ∙ ap (λ (l : Items). length (messagesAfter (r .time) l)) (sym first))
+        ∙ ap (λ (n : ℕ). r .messages + n)
+        (sym v
+        ∙ ap (λ (d : ℕ). length (withMessage isMessage (r .time + d) (item .what) (messagesAfter (r .time + d) (itemsTo address rest)))) (sym takes)
+        ∙ ap (λ (l : Items). length (messagesAfter (r .time) l)) (sym first))
         ∙ u
 
     sinces-next : (time : ℕ) → r .time + duration < time → since time 0 all ≡ since time (r .time + duration) rest
@@ -180,4 +183,6 @@ module _ (voice : Voice) (s : List ℕ) where
         (λ t.
         let long = eqb-false duration 0 t in
         let l = since-here long in
-        simp t (moved (r .time + duration) (r .at) (r .time) (r .messages) refl (ap (λ (x : Rest). placeOf (length s) (x .items)) l ∙ here) (ap (λ (x : Rest). x .past) l) (early-here long)))
+        simp t
+        (moved (r .time + duration) (r .at) (r .time) (r .messages) refl
+        (ap (λ (x : Rest). placeOf (length s) (x .items)) l ∙ here) (ap (λ (x : Rest). x .past) l) (early-here long)))

@@ -2,11 +2,14 @@
 -- plays is the first so many messages of that.
 use Prim.Native.Nat.{ℕ, _+_, _-_}
 use mathlib.Core.List.{List, [], _∷_, map}
+use mathlib.Core.Option.{none}
 use mathlib.Core.Path.{_≡_}
 use lib.ListN.{length, take}
 use Rattle.model.specs.Words.{if_then_else_, _<?_, _≤?_, keep, Placed}
 use Rattle.model.specs.Item.{Item, durationOf}
 use Rattle.model.specs.Play.{At, onsetsAfter, messagesOf, Section, isWithin}
+use Rattle.model.specs.Points.{timeOf}
+use Rattle.model.specs.Order.{between, streamSection}
 use Rattle.model.specs.Word.{isMessage, wordOf}
 use Rattle.model.specs.declared.Event.{Event}
 use Rattle.model.specs.declared.Span.{Span}
@@ -52,6 +55,13 @@ spanOf items size section =
       messages = length (messagesWithin section items);
       lasts = section .lasts;
     }
+
+-- the sections of a track, as spans: between two addresses, and from an address on with no bound
+abbrev pub spanBetween : Items → ℕ → ℕ → ℕ → Span
+spanBetween items size start stop = spanOf items size (between (timeOf items start) (timeOf items stop))
+
+abbrev pub spanFrom : Items → ℕ → ℕ → Span
+spanFrom items size start = spanOf items size (streamSection items start none)
 
 -- the items that stand from a place on
 unfoldable pub itemsFrom : ℕ → Items → Items

@@ -1,13 +1,11 @@
 // Sections as stretches of a body: between two addresses, and from an address to the body's end.
 ghost use mathlib.Core.Path.{_≡_};
 ghost use mathlib.Core.Bool.{true};
-ghost use mathlib.Core.Option.{none};
 ghost use Prim.Native.Nat.{_≤_};
 ghost use lib.ListN.{length};
 ghost use Rattle.model.specs.Item.{bodyOf, isFine, itemsOf};
-ghost use Rattle.model.specs.Points.{isAddress, timeOf};
-ghost use Rattle.model.specs.Order.{between, streamSection};
-ghost use Rattle.sections.specs.Spans.{spanOf};
+ghost use Rattle.model.specs.Points.{isAddress};
+ghost use Rattle.sections.specs.Spans.{spanBetween, spanFrom};
 ghost use Rattle.sections.specs.Reaching.{spanTo, Walked};
 use super::walk::walk_to;
 use model::Reached;
@@ -50,7 +48,7 @@ pub fn span_between(voice: Voice, body: &[u8], start: usize, stop: usize) -> Spa
     requires { ⌜ isAddress (itemsOf voice (now body)) (length (now body)) start ≡ true ⌝ }
     requires { ⌜ isAddress (itemsOf voice (now body)) (length (now body)) stop ≡ true ⌝ }
     requires { ⌜ start ≤ stop ⌝ }
-    ensures { λ r. ⌜ r ≡ spanOf (itemsOf voice (now (body .entry))) (length (now (body .entry))) (between (timeOf (itemsOf voice (now (body .entry))) start) (timeOf (itemsOf voice (now (body .entry))) stop)) ⌝ }
+    ensures { λ r. ⌜ r ≡ spanBetween (itemsOf voice (now (body .entry))) (length (now (body .entry))) start stop ⌝ }
 {
     let from = walk_to(voice, body, at_head(voice, body), start);
     let to = walk_to(voice, body, from, stop);
@@ -62,7 +60,7 @@ pub fn span_from(voice: Voice, body: &[u8], start: usize) -> Span
     requires { ⌜ length (now body) ≤ 65536 ⌝ }
     requires { ⌜ isFine (bodyOf voice (now body)) ≡ true ⌝ }
     requires { ⌜ isAddress (itemsOf voice (now body)) (length (now body)) start ≡ true ⌝ }
-    ensures { λ r. ⌜ r ≡ spanOf (itemsOf voice (now (body .entry))) (length (now (body .entry))) (streamSection (itemsOf voice (now (body .entry))) start none) ⌝ }
+    ensures { λ r. ⌜ r ≡ spanFrom (itemsOf voice (now (body .entry))) (length (now (body .entry))) start ⌝ }
 {
     let from = walk_to(voice, body, at_head(voice, body), start);
     let to = walk_to(voice, body, from, body.len());

@@ -8,10 +8,10 @@ at-head-requires : tie.Need-at-head-requires
 at-head-requires c κs = search needs
 
 walk-to-requires : tie.Need-walk-to-requires
-walk-to-requires c κs = (search (needs, spanning), (search (needs, spanning), (search (needs, spanning), (search (needs, spanning), search (needs, spanning)))))
+walk-to-requires c κs = (search needs, (search needs, (search needs, (search needs, search needs))))
 
 walk-to-requires-2 : tie.Need-walk-to-requires-2
-walk-to-requires-2 c κs = (search (needs, spanning), (search (needs, spanning), (search (needs, spanning), (search (needs, spanning), search (needs, spanning)))))
+walk-to-requires-2 c κs = (search needs, (search needs, (search needs, (search (needs, spanning), search (needs, spanning)))))
 
 span-to-requires : tie.Need-span-to-requires
 span-to-requires c κs = (search (needs, spanning), search (needs, spanning))
