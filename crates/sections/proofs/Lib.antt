@@ -7,3 +7,4 @@ pub mod Walking
 pub mod Nearing
 pub mod Spanning
 pub mod Steps
+pub mod Tunes
