@@ -30,7 +30,7 @@ unfoldable pub heardIn : Item Event → ℕ
 heardIn (timed duration event) = messagesIn event
 heardIn endMark = 0
 
-heard-one : (what : Item Event) → heardIn what ≤ 1
+pub heard-one : (what : Item Event) → heardIn what ≤ 1
 unfolding heardIn messagesIn if_then_else_
 heard-one (timed duration event) = by-test (isMessage event) (λ t. simp t (omega arith)) (λ t. simp t (omega arith))
 heard-one endMark = omega arith

@@ -1,11 +1,12 @@
 -- A section as a stretch of a body: onsets never fall, so what is not before a section is all that stands from some item on, and what it
 -- plays is the first so many messages of that.
-use Prim.Native.Nat.{ℕ, _+_, _-_}
+use Prim.Native.Nat.{ℕ, _+_, _-_, _*_, _≤_}
 use mathlib.Core.List.{List, [], _∷_, map}
 use mathlib.Core.Option.{none}
 use mathlib.Core.Path.{_≡_}
 use lib.ListN.{length, take}
 use Rattle.model.specs.Words.{if_then_else_, _<?_, _≤?_, keep, Placed}
+use Rattle.model.specs.Duration.{longestDuration}
 use Rattle.model.specs.Item.{Item, durationOf}
 use Rattle.model.specs.Play.{At, onsetsAfter, messagesOf, Section, isWithin}
 use Rattle.model.specs.Points.{timeOf}
@@ -82,6 +83,11 @@ stepsOf rows = map (λ row. row .step) rows
 
 unfoldable pub wordsOf : List (At Event) → List ℕ
 wordsOf rows = map (λ row. wordOf (row .event)) rows
+
+-- What a span of a body of a size can come to: each message takes a byte, and each byte at most the longest duration.
+pub record Small (size : ℕ) (span : Span) : Type 0 where
+  pub few : span .messages ≤ size
+  pub short : span .lasts ≤ longestDuration * size
 
 -- A span that some section of a body gives.
 pub record Playable (items : Items) (size : ℕ) (span : Span) : Type 0 where

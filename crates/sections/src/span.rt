@@ -5,7 +5,7 @@ ghost use Prim.Native.Nat.{_≤_};
 ghost use lib.ListN.{length};
 ghost use Rattle.model.specs.Item.{bodyOf, isFine, itemsOf};
 ghost use Rattle.model.specs.Points.{isAddress};
-ghost use Rattle.sections.specs.Spans.{spanBetween, spanFrom};
+ghost use Rattle.sections.specs.Spans.{spanBetween, spanFrom, Small};
 ghost use Rattle.sections.specs.Reaching.{spanTo, Walked};
 use super::walk::walk_to;
 use model::Reached;
@@ -49,6 +49,7 @@ pub fn span_between(voice: Voice, body: &[u8], start: usize, stop: usize) -> Spa
     requires { ⌜ isAddress (itemsOf voice (now body)) (length (now body)) stop ≡ true ⌝ }
     requires { ⌜ start ≤ stop ⌝ }
     ensures { λ r. ⌜ r ≡ spanBetween (itemsOf voice (now (body .entry))) (length (now (body .entry))) start stop ⌝ }
+    ensures { λ r. ⌜ Small (length (now (body .entry))) r ⌝ }
 {
     let from = walk_to(voice, body, at_head(voice, body), start);
     let to = walk_to(voice, body, from, stop);
@@ -61,6 +62,7 @@ pub fn span_from(voice: Voice, body: &[u8], start: usize) -> Span
     requires { ⌜ isFine (bodyOf voice (now body)) ≡ true ⌝ }
     requires { ⌜ isAddress (itemsOf voice (now body)) (length (now body)) start ≡ true ⌝ }
     ensures { λ r. ⌜ r ≡ spanFrom (itemsOf voice (now (body .entry))) (length (now (body .entry))) start ⌝ }
+    ensures { λ r. ⌜ Small (length (now (body .entry))) r ⌝ }
 {
     let from = walk_to(voice, body, at_head(voice, body), start);
     let to = walk_to(voice, body, from, body.len());

@@ -1,4 +1,6 @@
 -- `sections::span::span_from` meets its contract.
+use native.Mathlib.Omega.{arith}
+use Rattle.sections.proofs.Small.{stream-small}
 use Rattle.sections.proofs.Spanning.{spanning}
 use borrow.Author.Needs.{needs}
 use Rattle.sections.proofs.span.span_from.Statement.{statement}
@@ -17,7 +19,12 @@ span-to-requires : tie.Need-span-to-requires
 span-to-requires c κs = (search (needs, spanning), search (needs, spanning))
 
 returns : tie.Need-returns
-returns c = search (needs, spanning)
+returns c =
+    let a = c .before .before .before .before .before .args in (
+      search (needs, spanning),
+      stream-small (a .voice) (a .body .now) (λ k. omega (arith, c .before .before .before .before .shared-slice-known .given k)) (search needs) (search needs) _ (a .start)
+          (search (needs, spanning)),
+    )
 
 pub span-from-spec : {M : Type 1} → statement M
 span-from-spec =
