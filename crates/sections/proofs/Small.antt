@@ -21,7 +21,7 @@ use Rattle.items.proofs.Addresses.{stands-ahead, reads-to-items}
 use Rattle.items.proofs.Standing.{body-stands}
 use Rattle.sections.specs.Spans.{Items, onsets, spanOf, spanBetween, spanFrom, Small}
 use Rattle.sections.proofs.Places.{Standing, item-short}
-use Rattle.sections.proofs.Nearing.{heardIn, heard-one, says}
+use Rattle.sections.proofs.Nearing.{heard-one, says}
 
 kept-lasting : (test : Placed (Item Event) → Bool) (items : Items) → lasting (keep test items) ≤ lasting items
 unfolding keep lasting sum if_then_else_

@@ -20,7 +20,7 @@ use Rattle.model.proofs.Tests.{by-test}
 use Rattle.items.proofs.Addresses.{isThere, timeIn, placed-at, stands-ahead, passed-by, timed-by, reads-to-items}
 use Rattle.items.proofs.Standing.{body-stands}
 use Rattle.sections.specs.Spans.{Items, onsets, messagesAfter, Rest, since, placeOf}
-use Rattle.sections.specs.Reaching.{messagesTo, itemsTo, reachedOf, passedBy}
+use Rattle.sections.specs.Reaching.{messagesTo, itemsTo, reachedOf, atHead, passedBy}
 use Rattle.sections.proofs.Places.{Standing, place-stands}
 use Rattle.sections.proofs.Stretches.{none-kept}
 
@@ -61,7 +61,7 @@ module _ (voice : Voice) (s : List ℕ) where
   all = itemsOf voice s
 
   pub walking-starts : isFine (bodyOf voice s) ≡ true
-      → Walking voice s (record { at = 0; time = 0; messages = 0; first = 0; past = 0; passed = 0 }) all
+      → Walking voice s atHead all
   unfolding isAddress timeOf
   walking-starts fine =
       let st = body-stands voice s all (reads-to-items voice s fine) in

@@ -47,6 +47,7 @@ unfoldable pub placeOf : ℕ → Items → ℕ
 placeOf size [] = size
 placeOf size (item ∷ items) = item .place
 
+-- a section as it is walked
 unfoldable pub spanOf : Items → ℕ → Section → Span
 spanOf items size section =
     record {

@@ -6,17 +6,15 @@ ghost use lib.ListN.{length};
 ghost use Rattle.model.specs.Item.{bodyOf, isFine, itemsOf};
 ghost use Rattle.model.specs.Points.{isAddress};
 ghost use Rattle.sections.specs.Spans.{spanBetween, spanFrom, Small};
-ghost use Rattle.sections.specs.Reaching.{spanTo, Walked};
+ghost use Rattle.sections.specs.Reaching.{atHead, spanTo};
 use super::walk::walk_to;
 use model::Reached;
 use model::Span;
 use model::Voice;
 
-// A body of which nothing is walked yet.
-fn at_head(voice: Voice, body: &[u8]) -> Reached
-    requires { ⌜ isFine (bodyOf voice (now body)) ≡ true ⌝ }
-    ensures { λ r. ⌜ Walked (itemsOf voice (now (body .entry))) (length (now (body .entry))) r ⌝ }
-    ensures { λ r. ⌜ r .at ≡ 0 ⌝ }
+// Where a walk begins.
+fn at_head() -> Reached
+    ensures { λ r. ⌜ r ≡ atHead ⌝ }
 {
     Reached {
         at: 0,
@@ -28,6 +26,7 @@ fn at_head(voice: Voice, body: &[u8]) -> Reached
     }
 }
 
+// From what is reached on, up to so many messages and a time.
 fn span_to(reached: Reached, messages: usize, time: u64) -> Span
     requires { ⌜ reached .passed ≤ messages ⌝ }
     requires { ⌜ reached .time ≤ time ⌝ }
@@ -42,6 +41,7 @@ fn span_to(reached: Reached, messages: usize, time: u64) -> Span
     }
 }
 
+// Between two addresses. The body is walked once, up to the second.
 pub fn span_between(voice: Voice, body: &[u8], start: usize, stop: usize) -> Span
     requires { ⌜ length (now body) ≤ 65536 ⌝ }
     requires { ⌜ isFine (bodyOf voice (now body)) ≡ true ⌝ }
@@ -51,7 +51,7 @@ pub fn span_between(voice: Voice, body: &[u8], start: usize, stop: usize) -> Spa
     ensures { λ r. ⌜ r ≡ spanBetween (itemsOf voice (now (body .entry))) (length (now (body .entry))) start stop ⌝ }
     ensures { λ r. ⌜ Small (length (now (body .entry))) r ⌝ }
 {
-    let from = walk_to(voice, body, at_head(voice, body), start);
+    let from = walk_to(voice, body, at_head(), start);
     let to = walk_to(voice, body, from, stop);
     span_to(from, to.passed, to.time)
 }
@@ -64,7 +64,7 @@ pub fn span_from(voice: Voice, body: &[u8], start: usize) -> Span
     ensures { λ r. ⌜ r ≡ spanFrom (itemsOf voice (now (body .entry))) (length (now (body .entry))) start ⌝ }
     ensures { λ r. ⌜ Small (length (now (body .entry))) r ⌝ }
 {
-    let from = walk_to(voice, body, at_head(voice, body), start);
+    let from = walk_to(voice, body, at_head(), start);
     let to = walk_to(voice, body, from, body.len());
     span_to(from, to.messages, to.time)
 }

@@ -10,7 +10,7 @@ at-head-requires : tie.Need-at-head-requires
 at-head-requires c κs = search needs
 
 walk-to-requires : tie.Need-walk-to-requires
-walk-to-requires c κs = (search needs, (search needs, (search needs, (search needs, search needs))))
+walk-to-requires c κs = (search needs, (search needs, (search (needs, spanning), (search needs, search (needs, spanning)))))
 
 walk-to-requires-2 : tie.Need-walk-to-requires-2
 walk-to-requires-2 c κs = (search needs, (search needs, (search needs, (search (needs, spanning), search (needs, spanning)))))
@@ -22,8 +22,8 @@ returns : tie.Need-returns
 returns c =
     let a = c .before .before .before .before .before .args in (
       search (needs, spanning),
-      stream-small (a .voice) (a .body .now) (λ k. omega (arith, c .before .before .before .before .shared-slice-known .given k)) (search needs) (search needs) _ (a .start)
-          (search (needs, spanning)),
+      stream-small (a .voice) (a .body .now) (λ k. omega (arith, c .before .before .before .before .shared-slice-known .given k))
+          (search needs) (search needs) _ (a .start) (search (needs, spanning)),
     )
 
 pub span-from-spec : {M : Type 1} → statement M
