@@ -145,4 +145,6 @@ module _ (voice : Voice) (s : List ℕ) where
       unfolding reachedOf spanTo spanOf streamSection timeOf
       stream-is r e = e ∙ rw (there, after, all-to 0 all (stand fine)) (ap (spanWith _ _ _ _) (omega (arith, on-apart)))
 
-pub ruleset spanning = (head-walked, head-first, size-is-address, at-start, address-within, time-falls-not, passed-falls-not, between-is, passed-falls-not-on, stream-is)
+pub ruleset reaching = (head-walked, head-first, size-is-address, at-start, address-within)
+
+pub ruleset spanning = (time-falls-not, passed-falls-not, between-is, passed-falls-not-on, stream-is)

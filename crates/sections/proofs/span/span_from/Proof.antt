@@ -1,7 +1,7 @@
 -- `sections::span::span_from` meets its contract.
 use native.Mathlib.Omega.{arith}
 use Rattle.sections.proofs.Small.{stream-small}
-use Rattle.sections.proofs.Spanning.{spanning}
+use Rattle.sections.proofs.Spanning.{reaching, spanning}
 use borrow.Author.Needs.{needs}
 use Rattle.sections.proofs.span.span_from.Statement.{statement}
 use Rattle.sections.proofs.span.span_from.Tie as tie
@@ -10,13 +10,13 @@ at-head-requires : tie.Need-at-head-requires
 at-head-requires c κs = search needs
 
 walk-to-requires : tie.Need-walk-to-requires
-walk-to-requires c κs = (search needs, (search needs, (search (needs, spanning), (search needs, search (needs, spanning)))))
+walk-to-requires c κs = (search needs, (search needs, (search (needs, reaching), (search needs, search (needs, reaching)))))
 
 walk-to-requires-2 : tie.Need-walk-to-requires-2
-walk-to-requires-2 c κs = (search needs, (search needs, (search needs, (search (needs, spanning), search (needs, spanning)))))
+walk-to-requires-2 c κs = (search needs, (search needs, (search needs, (search (needs, reaching), search (needs, reaching)))))
 
 span-to-requires : tie.Need-span-to-requires
-span-to-requires c κs = (search (needs, spanning), search (needs, spanning))
+span-to-requires c κs = (search (needs, spanning, reaching), search (needs, spanning, reaching))
 
 returns : tie.Need-returns
 returns c =
