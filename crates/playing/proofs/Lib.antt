@@ -1,3 +1,4 @@
 pub mod Openings
 pub mod Rows
 pub mod Streams
+pub mod Played

@@ -6,7 +6,7 @@ use mathlib.Core.List.{List, [], _∷_}
 use mathlib.Core.Option.{Option, none, some}
 use lib.ListN.{length}
 use native.Mathlib.Omega.{arith}
-use borrow.Author.Tests.{ltb-false, eq-eqb, ne-eqb}
+use borrow.Author.Tests.{ltb-false, eq-eqb, ne-eqb, not-true}
 use Rattle.model.specs.Words.{if_then_else_, _and_, _or_, _<?_, _≡?_, any, isSome, _otherwise_, _orElse_, firstSaid, Placed, Checked, Checked.fine, Checked.refused, passed, _>>_, allPass}
 use Rattle.model.specs.Item.{Item, isFine, found, bodyOf, itemsOf, itemStep}
 use Rattle.model.specs.Seek.{Entry, Entry.start, Entry.stop, Entry.phrase, Entry.order, seekOf, startIn, stopIn, startPoint, stopPoint, orderList, orderPlace, pointsSaid}
@@ -18,7 +18,9 @@ use Rattle.model.specs.declared.Event.{Event}
 use Rattle.model.specs.declared.Points.{Points}
 use Rattle.model.specs.declared.Span.{Span}
 use Rattle.model.proofs.Tests.{by-test, and-left, and-right, if-true}
-use Rattle.sections.specs.Spans.{spanOf}
+use Rattle.items.proofs.Addresses.{one-there, reads-to-items}
+use Rattle.items.proofs.Standing.{body-stands}
+use Rattle.sections.specs.Spans.{spanOf, spanBetween, spanFrom}
 use Rattle.playing.specs.Performing.{entriesSaid, Formed, Ready}
 
 -- WHAT A SEEK BODY SAYS
@@ -92,4 +94,76 @@ module _ (address point : ℕ → Bool) (entries : List (Placed Entry)) (all : p
       let s = said-by _ _ entries value all e in
       let k = kept _ (s .0 .place) (s .2) in
       let h : (point value and not (value <? (startPoint entries otherwise 0))) ≡ true = rw (stop-is (s .0 .what) value (s .1)) at k in
-      (and-left _ _ h, ltb-false value _ (not-on (and-right (point value) _ h)))
+      (and-left _ _ h, ltb-false value _ (not-true _ (and-right (point value) _ h)))
+
+-- a point that is said, or its default
+said-or : (P : ℕ → Type 0) (o : Option ℕ) → ((value : ℕ) → o ≡ some value → P value) → P 0 → P (o otherwise 0)
+unfolding _otherwise_
+said-or P none h z = z
+said-or P (some value) h z = h value refl
+
+some-said : (o : Option ℕ) → isSome o ≡ true → (value : ℕ) × (o ≡ some value)
+unfolding isSome
+some-said none h = absurd (false≢true h)
+some-said (some value) h = (value, refl)
+
+none-said : (o : Option ℕ) → isSome o ≡ false → o ≡ none
+unfolding isSome
+none-said none h = refl
+none-said (some value) h = absurd (false≢true (sym h))
+
+-- the head of a body is an address
+head-address : (voice : Voice) (body : List ℕ) → isFine (bodyOf voice body) ≡ true → isAddress (itemsOf voice body) (length body) 0 ≡ true
+unfolding isAddress
+head-address voice body reads = one-there voice body 0 (itemsOf voice body) (body-stands voice body (itemsOf voice body) (reads-to-items voice body reads))
+
+module _ (voice : Voice) (body seek : List ℕ) (ready : Ready voice false body seek) (points : Points) (said : points ≡ pointsSaid (entriesSaid false seek)) where
+  abbrev items : List (Placed (Item Event))
+  items = itemsOf voice body
+
+  abbrev entries : List (Placed Entry)
+  entries = entriesSaid false seek
+
+  holds : pointsHold (isAddress items (length body)) (isAddress items (length body)) entries ≡ passed
+  unfolding pointsOf
+  holds = ready .holds
+
+  started : points .start ≡ (startPoint entries otherwise 0)
+  unfolding pointsSaid
+  started = ap (λ (p : Points). p .start) said
+
+  pub stream-from : isAddress (itemsOf voice body) (length body) (points .start) ≡ true
+  stream-from =
+      rw started
+      (said-or (λ (value : ℕ). isAddress items (length body) value ≡ true) (startPoint entries) (start-holds _ _ entries holds) (head-address voice body (ready .reads)))
+
+  module _ (stops : points .stops ≡ true) where
+    stopped : (value : ℕ) × (stopPoint entries ≡ some value)
+    unfolding pointsSaid
+    stopped = some-said (stopPoint entries) (sym (ap (λ (p : Points). p .stops) said) ∙ stops)
+
+    stop-said : points .stop ≡ stopped .0
+    unfolding pointsSaid _otherwise_
+    stop-said = ap (λ (p : Points). p .stop) said ∙ ap (λ (o : Option ℕ). o otherwise 0) (stopped .1)
+
+    pub stream-to : isAddress (itemsOf voice body) (length body) (points .stop) ≡ true
+    stream-to = rw stop-said (stop-holds _ _ entries holds (stopped .0) (stopped .1) .0)
+
+    pub stream-rises : points .start ≤ points .stop
+    stream-rises = let h = stop-holds _ _ entries holds (stopped .0) (stopped .1) .1 in omega (arith, started, stop-said)
+
+    pub stream-between : (r : Span) → r ≡ spanBetween (itemsOf voice body) (length body) (points .start) (points .stop)
+        → r ≡ spanOf (itemsOf voice body) (length body)
+        (streamSection (itemsOf voice body) (startPoint (entriesSaid false seek) otherwise 0) (stopPoint (entriesSaid false seek)))
+    unfolding streamSection
+    stream-between r e = rw (stopped .1, sym started, sym stop-said) e
+
+  pub stream-open : (r : Span) → points .stops ≡ false → r ≡ spanFrom (itemsOf voice body) (length body) (points .start)
+      → r ≡ spanOf (itemsOf voice body) (length body)
+      (streamSection (itemsOf voice body) (startPoint (entriesSaid false seek) otherwise 0) (stopPoint (entriesSaid false seek)))
+  unfolding pointsSaid
+  stream-open r stops e =
+      let none-there = none-said (stopPoint entries) (sym (ap (λ (p : Points). p .stops) said) ∙ stops) in
+      rw (none-there, sym started) e
+
+pub ruleset streaming = (stream-from, stream-to, stream-rises, stream-between, stream-open)

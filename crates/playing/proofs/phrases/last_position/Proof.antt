@@ -1,3 +1,5 @@
+use Rattle.model.proofs.Tests.{tests}
+use Rattle.playing.specs.Performing.{lastPosition}
 use borrow.Author.Needs.{needs}
 use Rattle.playing.proofs.phrases.last_position.Statement.{statement}
 use Rattle.playing.proofs.phrases.last_position.Tie as tie
@@ -10,11 +12,13 @@ cast-result c = search needs
 
 -- src/phrases.rt:21:9
 returns : tie.Need-returns
-returns c = ?
+unfolding lastPosition
+returns c = search tests
 
 -- src/phrases.rt:17:1
 returns-2 : tie.Need-returns-2
-returns-2 c = ?
+unfolding lastPosition
+returns-2 c = search tests
 
 pub last-position-spec : {M : Type 1} → statement M
 last-position-spec = tie.close (tie.spec cast-result returns returns-2)

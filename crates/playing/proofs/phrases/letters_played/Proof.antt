@@ -1,3 +1,4 @@
+use Rattle.playing.proofs.Rows.{cutting}
 use borrow.Author.Needs.{needs}
 use Rattle.playing.proofs.phrases.letters_played.Statement.{statement}
 use Rattle.playing.proofs.phrases.letters_played.Tie as tie
@@ -35,7 +36,7 @@ part-result-end c = search needs
 
 -- src/phrases.rt:27:1
 returns : tie.Need-returns
-returns c = ?
+returns c = search (needs, cutting)
 
 pub letters-played-spec : {M : Type 1} → statement M
 letters-played-spec =

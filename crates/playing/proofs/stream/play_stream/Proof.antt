@@ -1,3 +1,4 @@
+use Rattle.playing.proofs.Played.{stream-played}
 use borrow.Author.Needs.{needs}
 use Rattle.playing.proofs.stream.play_stream.Statement.{statement}
 use Rattle.playing.proofs.stream.play_stream.Tie as tie
@@ -25,11 +26,11 @@ same-length-2 c = search needs
 
 -- src/stream.rt:74:9
 returns : tie.Need-returns
-returns c = ?
+returns c = (search stream-played, (search (needs, stream-played), search (needs, stream-played)))
 
 -- src/stream.rt:79:5
 write-span-requires : tie.Need-write-span-requires
-write-span-requires c κs = ?
+write-span-requires c κs = (search needs, (search needs, (search stream-played, (search needs, (search (needs, stream-played), search (needs, stream-played))))))
 
 -- src/stream.rt:59:1
 same-length-3 : tie.Need-same-length-3
@@ -41,7 +42,7 @@ same-length-4 c = search needs
 
 -- src/stream.rt:59:1
 returns-2 : tie.Need-returns-2
-returns-2 c = ?
+returns-2 c = (search stream-played, (search (needs, stream-played), search (needs, stream-played)))
 
 pub play-stream-spec : {M : Type 1} → statement M
 play-stream-spec =

@@ -1,3 +1,4 @@
+use Rattle.playing.proofs.Streams.{streaming}
 use borrow.Author.Needs.{needs}
 use Rattle.playing.proofs.stream.span_of_stream.Statement.{statement}
 use Rattle.playing.proofs.stream.span_of_stream.Tie as tie
@@ -21,11 +22,11 @@ cast-span-between-2 c = search needs
 
 -- src/stream.rt:45:9
 span-between-requires : tie.Need-span-between-requires
-span-between-requires c κs = ?
+span-between-requires c κs = (search needs, (search needs, (search streaming, (search streaming, search streaming))))
 
 -- src/stream.rt:45:9
 returns : tie.Need-returns
-returns c = ?
+returns c = search streaming
 
 -- src/stream.rt:47:38
 cast-span-from : tie.Need-cast-span-from
@@ -33,11 +34,11 @@ cast-span-from c = search needs
 
 -- src/stream.rt:47:5
 span-from-requires : tie.Need-span-from-requires
-span-from-requires c κs = ?
+span-from-requires c κs = (search needs, (search needs, search streaming))
 
 -- src/stream.rt:39:1
 returns-2 : tie.Need-returns-2
-returns-2 c = ?
+returns-2 c = search streaming
 
 pub span-of-stream-spec : {M : Type 1} → statement M
 span-of-stream-spec =
