@@ -97,17 +97,17 @@ module _ (address point : ℕ → Bool) (entries : List (Placed Entry)) (all : p
       (and-left _ _ h, ltb-false value _ (not-true _ (and-right (point value) _ h)))
 
 -- a point that is said, or its default
-said-or : (P : ℕ → Type 0) (o : Option ℕ) → ((value : ℕ) → o ≡ some value → P value) → P 0 → P (o otherwise 0)
+pub said-or : (P : ℕ → Type 0) (o : Option ℕ) → ((value : ℕ) → o ≡ some value → P value) → P 0 → P (o otherwise 0)
 unfolding _otherwise_
 said-or P none h z = z
 said-or P (some value) h z = h value refl
 
-some-said : (o : Option ℕ) → isSome o ≡ true → (value : ℕ) × (o ≡ some value)
+pub some-said : (o : Option ℕ) → isSome o ≡ true → (value : ℕ) × (o ≡ some value)
 unfolding isSome
 some-said none h = absurd (false≢true h)
 some-said (some value) h = (value, refl)
 
-none-said : (o : Option ℕ) → isSome o ≡ false → o ≡ none
+pub none-said : (o : Option ℕ) → isSome o ≡ false → o ≡ none
 unfolding isSome
 none-said none h = refl
 none-said (some value) h = absurd (false≢true (sym h))
