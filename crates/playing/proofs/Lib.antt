@@ -1,0 +1,5 @@
+pub mod Phrased
+pub mod Bounded
+pub mod Planning
+pub mod Writing
+pub mod Together

@@ -1,70 +1,62 @@
+-- `playing::letters::write_letters` meets its contract.
+use borrow.Author.Needs.{needs}
+use Prim.Native.Nat.{_-_}
+use lib.ListN.{length}
+use native.Mathlib.Omega.{arith}
+use Rattle.playing.proofs.Writing.{Writing, write-starts, writing}
 use Rattle.playing.proofs.letters.write_letters.Statement.{statement}
 use Rattle.playing.proofs.letters.write_letters.Tie as tie
-use Rattle.playing.proofs.letters.write_letters.Reads as reads
-use Rattle.playing.proofs.letters.write_letters.Lts as lts
-use Rattle.sections.proofs.write_span.Reads as write-span-reads
 
 abbrev Inv-loop : tie.InvT-loop
-Inv-loop voice body letters steps₀ words₀ spans at₀ before₀ i₀ steps words at before i = ?
+Inv-loop voice body letters steps₀ words₀ spans at₀ before₀ i₀ steps words at before i =
+    Writing voice body spans letters steps₀ words₀ steps words at before i
 
 abbrev μ-loop : tie.MeasureT-loop
-μ-loop voice body letters steps₀ words₀ spans at₀ before₀ i₀ steps words at before i = ?
+μ-loop voice body letters steps₀ words₀ spans at₀ before₀ i₀ steps words at before i = length letters - i
 
--- src/letters.rt:92:5
 loop-holds : tie.Need-loop-holds Inv-loop μ-loop
-loop-holds c = ?
+loop-holds c =
+    write-starts _ _ _ _ _ _ (λ k. omega (arith, c .before .before .shared-slice-known2 .given k)) (search needs) (search needs) (search needs) (search needs)
+    (search needs) (search needs) (search needs)
 
--- src/letters.rt:93:26
 shared-slice-read-span : tie.Need-shared-slice-read-span Inv-loop μ-loop
-shared-slice-read-span c = ?
+shared-slice-read-span c = search (needs, writing)
 
--- src/letters.rt:93:26
 cast-span : tie.Need-cast-span Inv-loop μ-loop
-cast-span c = ?
+cast-span c = search (needs, writing)
 
--- src/letters.rt:93:20
 mul-span : tie.Need-mul-span Inv-loop μ-loop
-mul-span c = ?
+mul-span c = search (needs, writing)
 
--- src/letters.rt:93:20
 array-copy-out-span : tie.Need-array-copy-out-span Inv-loop μ-loop
-array-copy-out-span c = ?
+array-copy-out-span c = search (needs, writing)
 
--- src/letters.rt:94:9
 write-span-requires : tie.Need-write-span-requires Inv-loop μ-loop
-write-span-requires c κs = ?
+write-span-requires c κs = (search needs, (search needs, (search writing, (search writing, (search writing, search writing)))))
 
--- src/letters.rt:95:9
 add-at : tie.Need-add-at Inv-loop μ-loop
-add-at c = ?
+add-at c = search (needs, writing)
 
--- src/letters.rt:96:9
 add-before : tie.Need-add-before Inv-loop μ-loop
-add-before c = ?
+add-before c = search (needs, writing)
 
--- src/letters.rt:97:9
 add-i : tie.Need-add-i Inv-loop μ-loop
-add-i c = ?
+add-i c = search (needs, writing)
 
--- src/letters.rt:92:5
 loop-less : tie.Need-loop-less Inv-loop μ-loop
-loop-less c = ?
+loop-less c = search (needs, writing)
 
--- src/letters.rt:92:5
 loop-again : tie.Need-loop-again Inv-loop μ-loop
-loop-again c = ?
+loop-again c = search (needs, writing)
 
--- src/letters.rt:72:1
 same-length : tie.Need-same-length Inv-loop μ-loop
-same-length c = ?
+same-length c = search (needs, writing)
 
--- src/letters.rt:72:1
 same-length-2 : tie.Need-same-length-2 Inv-loop μ-loop
-same-length-2 c = ?
+same-length-2 c = search (needs, writing)
 
--- src/letters.rt:72:1
 returns : tie.Need-returns Inv-loop μ-loop
-returns c = ?
+returns c = search (needs, writing)
 
 pub write-letters-spec : {M : Type 1} → statement M
 write-letters-spec =
