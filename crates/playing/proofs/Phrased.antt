@@ -12,7 +12,7 @@ use Rattle.model.specs.Item.{isFine, found, itemsOf}
 use Rattle.model.specs.Seek.{Entry, Entry.start, Entry.stop, Entry.phrase, Entry.order, seekOf, Addresses, startPoint, phraseIn, phraseOf, foundPhrase}
 use Rattle.model.specs.Points.{isAddress, timeOf, isSpan, isPosition, pointHolds, pointsHold}
 use Rattle.model.specs.Order.{between, phraseSection}
-use Rattle.model.specs.Track.{pointsOf}
+use Rattle.model.specs.Track.{pointWidth, pointsOf}
 use Rattle.model.specs.declared.Voice.{Voice}
 use Rattle.model.specs.declared.Span.{Span}
 use Rattle.model.specs.declared.FoundPhrase.{FoundPhrase}
@@ -89,17 +89,17 @@ found-never (some addresses) h e = let z : _≡_ {A = ℕ} 0 1 = cc in omega ari
 module _ (voice : Voice) (body seek : List ℕ) (letter : ℕ) (ready : Ready voice true body seek)
     (named : isSome (phraseOf letter (entriesSaid true seek)) ≡ true) where
   -- a track without entries names no letter
-  said : (0 < length seek) × (entriesSaid true seek ≡ found (seekOf 1 seek))
+  said : (0 < length seek) × (entriesSaid true seek ≡ found (seekOf (pointWidth true) seek))
   unfolding entriesSaid phraseOf firstSaid isSome
   said =
       by-test (length seek ≡? 0)
       (λ t. absurd (false≢true (ap (λ (entries : List (Placed Entry)). isSome (phraseOf letter entries)) (sym (if-true _ _ _ t)) ∙ named)))
       (λ t. (omega (arith, eqb-false (length seek) 0 t), if-false _ _ _ t))
 
-  pub letter-formed : isFine (seekOf 1 seek) ≡ true
+  pub letter-formed : isFine (seekOf (pointWidth true) seek) ≡ true
   letter-formed = ready .formed (said .0)
 
-  module _ (r : FoundPhrase) (is : r ≡ foundPhrase (phraseOf letter (found (seekOf 1 seek)))) where
+  module _ (r : FoundPhrase) (is : r ≡ foundPhrase (phraseOf letter (found (seekOf (pointWidth true) seek)))) where
     told : (answer : FoundPhrase) → r ≡ answer → foundPhrase (phraseOf letter (entriesSaid true seek)) ≡ answer
     told answer e = ap (λ (entries : List (Placed Entry)). foundPhrase (phraseOf letter entries)) (said .1) ∙ sym is ∙ e
 
