@@ -3,3 +3,8 @@ pub mod Rows
 pub mod Streams
 pub mod Played
 pub mod Orders
+pub mod Phrased
+pub mod Bounded
+pub mod Planning
+pub mod Writing
+pub mod Together

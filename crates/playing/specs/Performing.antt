@@ -125,6 +125,7 @@ pub record Planned (items : Items) (size : ℕ) (entries : List (Placed Entry)) 
   pub spans : Spanned items size entries (plan .spans) letters
   pub count : plan .count ≡ messagesTogether (plan .spans) letters
   pub end : plan .end ≡ lastsTogether (plan .spans) letters
+  pub short : lastsTogether (plan .spans) letters ≤ 4611686018427387904
 
 -- the rows of letters, one span after the other, where so much has been played before
 unfoldable pub rowsTogether : Items → List Span → ℕ → List ℕ → List (At Event)

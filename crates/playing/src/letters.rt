@@ -9,7 +9,8 @@ ghost use Rattle.model.specs.Words.{isSome};
 ghost use Rattle.model.specs.Item.{isFine, bodyOf, itemsOf};
 ghost use Rattle.model.specs.Seek.{phraseOf};
 ghost use Rattle.sections.specs.Spans.{stepsOf, wordsOf};
-ghost use Rattle.playing.specs.Performing.{Ready, entriesSaid, letterSpan, noSpan, Named, Planned, AllPlayable, messagesTogether, rowsTogether};
+ghost use Rattle.playing.specs.Performing.{Ready, entriesSaid, letterSpan, noSpan, Named, Planned};
+ghost use Rattle.playing.specs.Performing.{AllPlayable, messagesTogether, lastsTogether, rowsTogether};
 use model::FoundPhrase;
 use model::Plan;
 use model::Span;
@@ -81,6 +82,7 @@ pub fn write_letters(
     requires { ⌜ isFine (bodyOf voice (now body)) ≡ true ⌝ }
     requires { ⌜ length (now letters) ≤ 65536 ⌝ }
     requires { ⌜ AllPlayable (itemsOf voice (now body)) (length (now body)) spans (now letters) ⌝ }
+    requires { ⌜ lastsTogether spans (now letters) ≤ 4611686018427387904 ⌝ }
     requires { ⌜ messagesTogether spans (now letters) ≤ length (now steps) ⌝ }
     requires { ⌜ messagesTogether spans (now letters) ≤ length (now words) ⌝ }
     ensures { λ _. ⌜ now (steps .exit) ≡ sets (now (steps .entry)) 0 (stepsOf (rowsTogether (itemsOf voice (now (body .entry))) spans 0 (now (letters .entry)))) ⌝ }
