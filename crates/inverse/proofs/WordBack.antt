@@ -1,23 +1,15 @@
 -- Demand 2: the word of an event, as a played row has it, says that event to the writer, so that what was played can be written as it
 -- stands in the table.
-use Prim.Native.Nat.{_<_, _≤_}
+use Prim.Native.Nat.{_≤_}
 use mathlib.Core.Option.{some}
 use mathlib.Core.Path.{_≡_, refl}
 use native.Mathlib.Omega.{arith}
 use borrow.Author.Tests.{le-leb, ne-eqb}
 use Rattle.model.specs.Words.{if_then_else_}
-use Rattle.model.specs.Word.{packed, packedExclusive, wordOf}
+use Rattle.model.specs.Word.{packed, packedExclusive, wordOf, InWord}
 use Rattle.model.specs.Writing.{kindIn, channelIn, valueIn, gateIn, placeIn, sizeIn, eventIn, eventOfWord}
 use Rattle.model.specs.declared.Event.{Event}
 use Rattle.model.specs.declared.Event.the-variants.{Nop, Note, Wave, Control, Exclusive}
-
--- the numbers that a word has the bits for
-abbrev pub InWord : Event → Type 0
-InWord Nop = Unit
-InWord (Note channel key gate) = (channel < 4) × (key < 256) × (gate < 32768)
-InWord (Wave channel number gate) = (channel < 4) × (number < 256) × (gate < 32768)
-InWord (Control kind channel value) = (3 ≤ kind) × (kind < 14) × (channel < 4) × (value < 256)
-InWord (Exclusive place size) = (place < 65536) × (size < 256)
 
 pub word-back : (event : Event) → InWord event → eventOfWord (wordOf event) ≡ some event
 unfolding wordOf eventOfWord eventIn if_then_else_

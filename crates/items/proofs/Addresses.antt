@@ -38,7 +38,7 @@ module _ (voice : Voice) (s : List ℕ) (at : ℕ) (item : Placed (Item Event)) 
   unfolding itemStep
   placed-at = met-at at (length s) (itemAt voice s at) item next e
 
-  stands-ahead : (at < next) × (next ≤ length s)
+  pub stands-ahead : (at < next) × (next ≤ length s)
   stands-ahead = subst (GoesOn (length s) at) e (item-goes voice s at)
 
 -- the two halves of what is asked of an address, of the items from some place on
@@ -74,7 +74,7 @@ seek-starts voice s address h =
     }
 
 -- items from a place on have places from there on
-none-before : (voice : Voice) (s : List ℕ) (address at : ℕ) (items : Items) → Standing voice s at items → address ≤ at
+pub none-before : (voice : Voice) (s : List ℕ) (address at : ℕ) (items : Items) → Standing voice s at items → address ≤ at
     → timeIn items address ≡ 0
 unfolding keep lasting sum if_then_else_
 none-before voice s address at [] st h = refl
@@ -83,7 +83,7 @@ none-before voice s address at (item ∷ rest) st h =
     let past : address ≤ item .place = omega (arith, placed-at voice s at item (st .0) (st .1)) in
     simp le-ltb (none-before voice s address (st .0) rest (st .2) (omega arith))
 
-none-there : (voice : Voice) (s : List ℕ) (address at : ℕ) (items : Items) → Standing voice s at items → address < at → at ≤ length s
+pub none-there : (voice : Voice) (s : List ℕ) (address at : ℕ) (items : Items) → Standing voice s at items → address < at → at ≤ length s
     → isThere items (length s) address ≡ false
 unfolding any _or_
 none-there voice s address at [] st h within = let other : length s ≡ address → ⊥ = λ e. omega arith in simp ne-eqb
@@ -92,7 +92,7 @@ none-there voice s address at (item ∷ rest) st h within =
     let other : item .place ≡ address → ⊥ = λ e. omega (arith, placed-at voice s at item (st .0) (st .1)) in
     simp ne-eqb (none-there voice s address (st .0) rest (st .2) (omega arith) (a .1))
 
-one-there : (voice : Voice) (s : List ℕ) (at : ℕ) (items : Items) → Standing voice s at items → isThere items (length s) at ≡ true
+pub one-there : (voice : Voice) (s : List ℕ) (at : ℕ) (items : Items) → Standing voice s at items → isThere items (length s) at ≡ true
 unfolding any _or_
 one-there voice s at [] st = let e : length s ≡ at = omega arith in simp eq-eqb
 one-there voice s at (item ∷ rest) st = let e : item .place ≡ at = placed-at voice s at item (st .0) (st .1) in simp eq-eqb
@@ -106,12 +106,12 @@ none-past voice s address at (item ∷ rest) st before past =
     absurd (omega arith)
 
 -- an item before the address is passed by, and its duration counts
-passed-by : (item : Placed (Item Event)) (rest : Items) (address size : ℕ) → item .place < address
+pub passed-by : (item : Placed (Item Event)) (rest : Items) (address size : ℕ) → item .place < address
     → isThere (item ∷ rest) size address ≡ isThere rest size address
 unfolding any _or_
 passed-by item rest address size h = let other : item .place ≡ address → ⊥ = λ e. omega arith in simp ne-eqb
 
-timed-by : (item : Placed (Item Event)) (rest : Items) (address : ℕ) → item .place < address
+pub timed-by : (item : Placed (Item Event)) (rest : Items) (address : ℕ) → item .place < address
     → timeIn (item ∷ rest) address ≡ durationOf (item .what) + timeIn rest address
 unfolding keep lasting sum if_then_else_
 timed-by item rest address h = simp lt-ltb

@@ -1,4 +1,6 @@
 pub mod Answers
+pub mod Below
+pub mod Codes
 pub mod Examples
 pub mod PastLength
 pub mod Stores

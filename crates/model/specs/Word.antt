@@ -1,5 +1,5 @@
 -- Paper, "Playing": the 32-bit word of a played row, packed from the top bit.
-use Prim.Native.Nat.{ℕ, _+_, _*_}
+use Prim.Native.Nat.{ℕ, _+_, _*_, _<_, _≤_}
 use mathlib.Core.Bool.{Bool, true, false}
 use Rattle.model.specs.declared.Event.{Event}
 use Rattle.model.specs.declared.Event.the-variants.{Nop, Note, Wave, Control, Exclusive}
@@ -34,3 +34,11 @@ wordOf (Note channel key gate) = packed 1 channel key gate
 wordOf (Wave channel number gate) = packed 2 channel number gate
 wordOf (Control kind channel value) = packed kind channel value 0
 wordOf (Exclusive place size) = packedExclusive place size
+
+-- the numbers that a word has the bits for
+abbrev pub InWord : Event → Type 0
+InWord Nop = Unit
+InWord (Note channel key gate) = (channel < 4) × (key < 256) × (gate < 32768)
+InWord (Wave channel number gate) = (channel < 4) × (number < 256) × (gate < 32768)
+InWord (Control kind channel value) = (3 ≤ kind) × (kind < 14) × (channel < 4) × (value < 256)
+InWord (Exclusive place size) = (place < 65536) × (size < 256)

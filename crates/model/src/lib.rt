@@ -129,6 +129,27 @@ pub enum Address {
     Nowhere,
 }
 
+// A section of a body as it is walked: the place of the first item whose onset is not before the section, the time before that item, the
+// section's start time, how many messages it plays, and how long it lasts.
+pub struct Span {
+    pub first: usize,
+    pub past: u64,
+    pub start: u64,
+    pub messages: usize,
+    pub lasts: u64,
+}
+
+// How far a body is walked: up to an address, its time, the messages before it; and of the items whose onset is not before that time the
+// place of the first, the time before it, and the messages before it.
+pub struct Reached {
+    pub at: usize,
+    pub time: u64,
+    pub messages: usize,
+    pub first: usize,
+    pub past: u64,
+    pub passed: usize,
+}
+
 // A check that has nothing to hand back.
 pub enum Check {
     Passed,

@@ -10,3 +10,4 @@ pub mod Whole
 pub mod Accepted
 pub mod Tiling
 pub mod Finding
+pub mod OneResult

@@ -21,7 +21,7 @@ use Rattle.model.specs.declared.Event.the-variants.{Nop, Note, Wave, Control, E
 use Rattle.model.specs.declared.ReadDuration.the-variants as duration
 use Rattle.model.specs.declared.ReadEvent.the-variants as event
 use Rattle.model.proofs.Tests.{and-left, and-right}
-use Rattle.writing.proofs.Codes.{code-low, kind-back}
+use Rattle.model.proofs.Codes.{code-low, kind-back}
 use Rattle.writing.proofs.Durations.{one-byte, two-bytes}
 use Rattle.writing.proofs.Events.{control-long, control-short}
 use Rattle.writing.proofs.Numbers.{IsGate, IsNote, IsWave, IsControl, is-note, is-wave, is-control}

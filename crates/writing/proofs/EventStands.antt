@@ -21,7 +21,7 @@ use Rattle.model.specs.declared.ReadDuration.the-variants as duration
 use Rattle.model.specs.declared.ReadEvent.{ReadEvent}
 use Rattle.model.specs.declared.ReadEvent.the-variants as event
 use Rattle.model.proofs.Tests.{if-all}
-use Rattle.writing.proofs.Codes.{code-back, kind-from, kind-to}
+use Rattle.model.proofs.Codes.{code-back, kind-from, kind-to}
 use Rattle.writing.proofs.ContentFits.{exclusive-fits}
 use Rattle.writing.proofs.Durations.{one-byte, two-bytes}
 use Rattle.writing.proofs.Events.{control-long, control-short}

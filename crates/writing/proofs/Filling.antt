@@ -16,8 +16,8 @@ use Rattle.model.specs.Plain.{itemBytes, bytesOf}
 use Rattle.model.specs.Content.{Content, handyPhone}
 use Rattle.model.specs.Writing.{eventOfWord, itemOf, Sequence, Sequence.items, Sequence.unfitAt, sequenceOf}
 use Rattle.model.specs.declared.Voice.{Voice}
-use Rattle.writing.specs.Parts.{givenBytes, sequenceBytes, Holds}
 use Rattle.model.proofs.Stores.{sets-append}
+use Rattle.writing.specs.Parts.{givenBytes, sequenceBytes, Holds}
 use Rattle.writing.proofs.Listed.{with-item, listed-next, listed-over}
 
 pub record Filling (voice : Voice) (s durations words l out : List ℕ) (at i : ℕ) : Type 0 where

@@ -1,8 +1,6 @@
 pub mod Answers
-pub mod Below
 pub mod Cases
 pub mod Checking
-pub mod Codes
 pub mod ContentFits
 pub mod Contents
 pub mod Durations

@@ -1,6 +1,6 @@
 -- A stretch copied into lent memory: what is still to be stored makes the whole.
 use Prim.Native.Nat.{ℕ, suc, _+_, _-_, _<_, _≤_}
-use mathlib.Core.List.{List, [], _∷_, _++_}
+use mathlib.Core.List.{List, _∷_}
 use mathlib.Core.Path.{_≡_, refl, sym, _∙_, ap}
 use lib.ListN.{length, take, set, getD, length-set, length-take, length-drop}
 use lib.Seq.{sets, drop-cons}

@@ -1,6 +1,6 @@
 -- `code_of` is the table of the definition, and each of its entries has four bits.
 use mathlib.Core.Path.{refl}
-use Rattle.writing.proofs.Codes.{code-low}
+use Rattle.model.proofs.Codes.{code-low}
 use borrow.Author.Needs.{needs}
 use Rattle.writing.proofs.event.code_of.Statement.{statement}
 use Rattle.writing.proofs.event.code_of.Tie as tie

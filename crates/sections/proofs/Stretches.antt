@@ -1,0 +1,122 @@
+-- FROM A FILTER TO A STRETCH. The paper's rule plays each message whose onset is within a section; onsets never fall, so these are the
+-- first so many messages from some item on: the rows of a section's span are what the section sounds.
+use Prim.Native.Nat.{ℕ, _+_, _-_, _<_, _≤_}
+use mathlib.Core.List.{List, [], _∷_, map}
+use mathlib.Core.Bool.{Bool, true}
+use mathlib.Core.Option.{Option, none, some}
+use mathlib.Core.Path.{_≡_, refl, _∙_, ap}
+use lib.ListN.{length, take, length-map}
+use native.Mathlib.Omega.{arith}
+use borrow.Author.Tests.{le-leb, lt-leb, le-ltb, lt-ltb, ltb-true, ltb-false}
+use Rattle.model.specs.Words.{_and_, if_then_else_, _<?_, keep}
+use Rattle.model.specs.Item.{Item, Item.timed, Item.endMark, durationOf, bodyOf, isFine, itemsOf}
+use Rattle.model.specs.Play.{At, onsetsAfter, withMessage, messagesOf, Section, isBelow, isWithin, sounding}
+use Rattle.model.specs.Word.{isMessage}
+use Rattle.model.specs.declared.Voice.{Voice}
+use Rattle.model.specs.declared.Event.{Event}
+use Rattle.model.proofs.Tests.{by-test}
+use Rattle.items.proofs.Addresses.{reads-to-items}
+use Rattle.items.proofs.Standing.{body-stands}
+use Rattle.sections.specs.Spans.{Items, onsets, messagesAfter, messagesWithin, Rest, since, spanOf, counted, spanRows}
+use Rattle.sections.proofs.Places.{from-since}
+
+abbrev pub within : Section → At (Item Event) → Bool
+within section at = isWithin section (at .step)
+
+abbrev pub below : Option ℕ → At (Item Event) → Bool
+below to at = isBelow (at .step) to
+
+-- past a section's start only the bound counts
+pub kept-after : (section : Section) (past : ℕ) (items : Items) → section .from ≤ past
+    → keep (within section) (onsets past items) ≡ keep (below (section .to)) (onsets past items)
+unfolding keep onsetsAfter isWithin _and_
+kept-after section past [] h = refl
+kept-after section past (item ∷ items) h =
+    let here : section .from ≤ past + durationOf (item .what) = omega arith in
+    simp le-leb
+    (ap
+    (λ (rest : List (At (Item Event))). if isBelow (past + durationOf (item .what)) (section .to) then record { step = past + durationOf (item .what); event = item .what } ∷ rest else rest)
+    (kept-after section (past + durationOf (item .what)) items here))
+
+-- what is before a section's start is not within it
+pub kept-since : (section : Section) (past : ℕ) (items : Items)
+    → keep (within section) (onsets past items)
+    ≡ keep (below (section .to)) (onsets (since (section .from) past items .past) (since (section .from) past items .items))
+unfolding keep onsetsAfter isWithin since _and_ if_then_else_
+kept-since section past [] = refl
+kept-since section past (item ∷ items) =
+    by-test (past + durationOf (item .what) <? section .from)
+    (λ t.
+    let early = ltb-true (past + durationOf (item .what)) (section .from) t in
+    simp (lt-ltb, lt-leb) (kept-since section (past + durationOf (item .what)) items))
+    (λ t.
+    let late = ltb-false (past + durationOf (item .what)) (section .from) t in
+    simp (le-ltb, le-leb)
+    (ap
+    (λ (rest : List (At (Item Event))). if isBelow (past + durationOf (item .what)) (section .to) then record { step = past + durationOf (item .what); event = item .what } ∷ rest else rest)
+    (kept-after section (past + durationOf (item .what)) items late)))
+
+-- past a bound nothing is kept
+pub none-kept : (bound past : ℕ) (items : Items) → bound ≤ past → keep (below (some bound)) (onsets past items) ≡ []
+unfolding keep onsetsAfter isBelow if_then_else_
+none-kept bound past [] h = refl
+none-kept bound past (item ∷ items) h =
+    let over : bound ≤ past + durationOf (item .what) = omega arith in
+    simp le-ltb (none-kept bound (past + durationOf (item .what)) items over)
+
+pub all-kept : (l : List (At (Item Event))) → keep (below none) l ≡ l
+unfolding keep isBelow if_then_else_
+all-kept [] = refl
+all-kept (at ∷ l) = ap (λ (rest : List (At (Item Event))). at ∷ rest) (all-kept l)
+
+take-all : {A : Type 0} (l : List A) → take (length l) l ≡ l
+take-all [] = refl
+take-all (a ∷ l) = ap (λ (rest : List _). a ∷ rest) (take-all l)
+
+-- an item's message in front of a first piece and of the whole
+first-with : (onset : ℕ) (item : Item Event) (piece whole : List (At Event)) → take (length piece) whole ≡ piece
+    → take (length (withMessage isMessage onset item piece)) (withMessage isMessage onset item whole) ≡ withMessage isMessage onset item piece
+unfolding withMessage if_then_else_
+first-with onset (timed duration event) piece whole e =
+    by-test (isMessage event)
+    (λ t. simp t (ap (λ (rest : List (At Event)). record { step = onset; event = event } ∷ rest) e))
+    (λ t. simp t e)
+first-with onset endMark piece whole e = e
+
+-- the messages below a bound are the first so many
+first-kept : (to : Option ℕ) (past : ℕ) (items : Items)
+    → take (length (messagesOf isMessage (keep (below to) (onsets past items)))) (messagesAfter past items)
+    ≡ messagesOf isMessage (keep (below to) (onsets past items))
+unfolding keep onsetsAfter messagesOf isBelow if_then_else_
+first-kept none past items = rw (all-kept (onsets past items)) (take-all (messagesAfter past items))
+first-kept (some bound) past [] = refl
+first-kept (some bound) past (item ∷ items) =
+    by-test (past + durationOf (item .what) <? bound)
+    (λ t. simp t (first-with (past + durationOf (item .what)) (item .what) _ _ (first-kept (some bound) (past + durationOf (item .what)) items)))
+    (λ t.
+    let over = ltb-false (past + durationOf (item .what)) bound t in
+    simp (t, none-kept bound (past + durationOf (item .what)) items over))
+
+-- the rows of a section's span are what the section sounds
+module _ (voice : Voice) (s : List ℕ) (fine : isFine (bodyOf voice s) ≡ true) (section : Section) where
+  abbrev items : Items
+  items = itemsOf voice s
+
+  abbrev rest : Rest
+  rest = since (section .from) 0 items
+
+  rest-messages : take (length (messagesWithin section items)) (messagesAfter (rest .past) (rest .items)) ≡ messagesWithin section items
+  rest-messages = rw (kept-since section 0 items) (first-kept (section .to) (rest .past) (rest .items))
+
+  pub span-sounds : (before : ℕ) → spanRows items (spanOf items (length s) section) before ≡ sounding isMessage (onsets 0 items) before section
+  unfolding spanRows spanOf sounding
+  span-sounds before =
+      ap (map (counted before (section .from)))
+      (ap (λ (l : Items). take (length (messagesWithin section items)) (messagesAfter (rest .past) l))
+      (from-since voice s (section .from) 0 0 items (body-stands voice s items (reads-to-items voice s fine)))
+      ∙ rest-messages)
+
+  -- and as many as the span says
+  pub span-counts : (before : ℕ) → length (spanRows items (spanOf items (length s) section) before) ≡ spanOf items (length s) section .messages
+  unfolding spanOf sounding
+  span-counts before = ap length (span-sounds before) ∙ length-map (messagesWithin section items) (counted before (section .from))

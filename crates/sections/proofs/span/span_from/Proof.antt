@@ -1,0 +1,25 @@
+-- `sections::span::span_from` meets its contract.
+use Rattle.sections.proofs.Spanning.{spanning}
+use borrow.Author.Needs.{needs}
+use Rattle.sections.proofs.span.span_from.Statement.{statement}
+use Rattle.sections.proofs.span.span_from.Tie as tie
+
+at-head-requires : tie.Need-at-head-requires
+at-head-requires c κs = search needs
+
+walk-to-requires : tie.Need-walk-to-requires
+walk-to-requires c κs = (search (needs, spanning), (search (needs, spanning), (search (needs, spanning), (search (needs, spanning), search (needs, spanning)))))
+
+walk-to-requires-2 : tie.Need-walk-to-requires-2
+walk-to-requires-2 c κs = (search (needs, spanning), (search (needs, spanning), (search (needs, spanning), (search (needs, spanning), search (needs, spanning)))))
+
+span-to-requires : tie.Need-span-to-requires
+span-to-requires c κs = (search (needs, spanning), search (needs, spanning))
+
+returns : tie.Need-returns
+returns c = search (needs, spanning)
+
+pub span-from-spec : {M : Type 1} → statement M
+span-from-spec =
+    tie.close
+    (tie.spec at-head-requires walk-to-requires walk-to-requires-2 span-to-requires returns)

@@ -1,0 +1,73 @@
+-- A body walked up to an address.
+use Prim.Native.Nat.{ℕ, _+_, _-_, _*_, _≤_}
+use mathlib.Core.Bool.{true}
+use mathlib.Core.Path.{_≡_}
+use lib.ListN.{length}
+use Rattle.model.specs.Words.{if_then_else_, _<?_, _≡?_, keep}
+use Rattle.model.specs.Play.{messagesOf}
+use Rattle.model.specs.Points.{isAddress, timeOf}
+use Rattle.model.specs.Word.{isMessage}
+use Rattle.model.specs.declared.Event.{Event}
+use Rattle.model.specs.declared.Reached.{Reached}
+use Rattle.model.specs.declared.Span.{Span}
+use Rattle.sections.specs.Spans.{Items, onsets, messagesAfter, since, placeOf}
+
+-- how many messages have an onset before a time, after a time that is past
+abbrev pub messagesTo : ℕ → ℕ → Items → ℕ
+messagesTo time past items = length (messagesOf isMessage (keep (λ at. at .step <? time) (onsets past items)))
+
+-- the items that start before an address
+abbrev pub itemsTo : ℕ → Items → Items
+itemsTo address items = keep (λ item. item .place <? address) items
+
+unfoldable pub reachedOf : Items → ℕ → ℕ → Reached
+reachedOf items size address =
+    record {
+      at = address;
+      time = timeOf items address;
+      messages = length (messagesAfter 0 (itemsTo address items));
+      first = placeOf size (since (timeOf items address) 0 items .items);
+      past = since (timeOf items address) 0 items .past;
+      passed = messagesTo (timeOf items address) 0 items;
+    }
+
+-- the span from what is reached on, up to so many messages and a time
+unfoldable pub spanTo : Reached → ℕ → ℕ → Span
+spanTo reached messages time =
+    record {
+      first = reached .first;
+      past = reached .past;
+      start = reached .time;
+      messages = messages - reached .passed;
+      lasts = time - reached .time;
+    }
+
+-- how many messages an event is
+unfoldable pub messagesIn : Event → ℕ
+messagesIn event = if isMessage event then 1 else 0
+
+-- One item further: a duration, so many messages, and the place after it. An item that takes time is the first that is not before its
+-- own onset.
+unfoldable pub passedBy : Reached → ℕ → ℕ → ℕ → Reached
+passedBy reached duration heard next =
+    if duration ≡? 0 then record {
+      at = next;
+      time = reached .time;
+      messages = reached .messages + heard;
+      first = reached .first;
+      past = reached .past;
+      passed = reached .passed;
+    } else record {
+      at = next;
+      time = reached .time + duration;
+      messages = reached .messages + heard;
+      first = reached .at;
+      past = reached .time;
+      passed = reached .messages;
+    }
+
+-- what is reached, at an address, and a time that can be counted on
+pub record Walked (items : Items) (size : ℕ) (reached : Reached) : Type 0 where
+  pub is : reached ≡ reachedOf items size (reached .at)
+  pub address : isAddress items size (reached .at) ≡ true
+  pub small : reached .time ≤ 4294967296 * reached .at

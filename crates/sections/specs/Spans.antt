@@ -1,0 +1,79 @@
+-- A section as a stretch of a body: onsets never fall, so what is not before a section is all that stands from some item on, and what it
+-- plays is the first so many messages of that.
+use Prim.Native.Nat.{ℕ, _+_, _-_}
+use mathlib.Core.List.{List, [], _∷_, map}
+use mathlib.Core.Path.{_≡_}
+use lib.ListN.{length, take}
+use Rattle.model.specs.Words.{if_then_else_, _<?_, _≤?_, keep, Placed}
+use Rattle.model.specs.Item.{Item, durationOf}
+use Rattle.model.specs.Play.{At, onsetsAfter, messagesOf, Section, isWithin}
+use Rattle.model.specs.Word.{isMessage, wordOf}
+use Rattle.model.specs.declared.Event.{Event}
+use Rattle.model.specs.declared.Span.{Span}
+
+abbrev pub Items : Type 0
+Items = List (Placed (Item Event))
+
+-- the items of a list at their onsets, after a time that is past
+abbrev pub onsets : ℕ → Items → List (At (Item Event))
+onsets past items = onsetsAfter past (map (λ item. item .what) items)
+
+-- the messages of a list of items at their onsets
+abbrev pub messagesAfter : ℕ → Items → List (At Event)
+messagesAfter past items = messagesOf isMessage (onsets past items)
+
+-- the messages that a section plays, at their onsets
+abbrev pub messagesWithin : Section → Items → List (At Event)
+messagesWithin section items = messagesOf isMessage (keep (λ at. isWithin section (at .step)) (onsets 0 items))
+
+-- Items, and the time that is past before them.
+pub record Rest : Type 0 where
+  pub past : ℕ
+  pub items : Items
+
+-- the items whose onset is not before a time
+unfoldable pub since : ℕ → ℕ → Items → Rest
+since time past [] = record { past = past; items = [] }
+since time past (item ∷ items) =
+    if past + durationOf (item .what) <? time then since time (past + durationOf (item .what)) items else
+    record { past = past; items = item ∷ items }
+
+-- the place of the first item, or the body's size where there is none
+unfoldable pub placeOf : ℕ → Items → ℕ
+placeOf size [] = size
+placeOf size (item ∷ items) = item .place
+
+unfoldable pub spanOf : Items → ℕ → Section → Span
+spanOf items size section =
+    record {
+      first = placeOf size (since (section .from) 0 items .items);
+      past = since (section .from) 0 items .past;
+      start = section .from;
+      messages = length (messagesWithin section items);
+      lasts = section .lasts;
+    }
+
+-- the items that stand from a place on
+unfoldable pub itemsFrom : ℕ → Items → Items
+itemsFrom place items = keep (λ item. place ≤? item .place) items
+
+-- a message at its onset less a section's start, where so much has been played before
+abbrev pub counted : ℕ → ℕ → At Event → At Event
+counted before start at = record { step = before + (at .step - start); event = at .event }
+
+-- the rows of a span
+unfoldable pub spanRows : Items → Span → ℕ → List (At Event)
+spanRows items span before =
+    map (counted before (span .start)) (take (span .messages) (messagesAfter (span .past) (itemsFrom (span .first) items)))
+
+-- the two columns of rows, as a table has them
+unfoldable pub stepsOf : List (At Event) → List ℕ
+stepsOf rows = map (λ row. row .step) rows
+
+unfoldable pub wordsOf : List (At Event) → List ℕ
+wordsOf rows = map (λ row. wordOf (row .event)) rows
+
+-- A span that some section of a body gives.
+pub record Playable (items : Items) (size : ℕ) (span : Span) : Type 0 where
+  pub section : Section
+  pub is : span ≡ spanOf items size section
