@@ -1,3 +1,4 @@
 pub mod Gaps
 pub mod PlainPlays
 pub mod PlainItems
+pub mod Streams
