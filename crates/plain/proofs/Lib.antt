@@ -2,3 +2,5 @@ pub mod Gaps
 pub mod PlainPlays
 pub mod PlainItems
 pub mod Streams
+pub mod PlainReads
+pub mod NamedTracks
