@@ -4,3 +4,4 @@ pub mod PlainItems
 pub mod Streams
 pub mod PlainReads
 pub mod NamedTracks
+pub mod Performances
