@@ -5,3 +5,4 @@ pub mod Streams
 pub mod PlainReads
 pub mod NamedTracks
 pub mod Performances
+pub mod PlainTracks
