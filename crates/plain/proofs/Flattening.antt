@@ -9,7 +9,7 @@ use mathlib.Core.Option.{Option, none, some}
 use mathlib.Core.Path.{_≡_, refl, sym, _∙_, ap, ap₂}
 use lib.ListN.{length}
 use native.Mathlib.Omega.{arith}
-use borrow.Author.Tests.{le-ltb, lt-ltb, ltb-true}
+use borrow.Author.Tests.{le-ltb, lt-ltb, ltb-true, ltb-false}
 use Rattle.model.specs.Words.{if_then_else_, _or_, _<?_, Checked, Checked.fine, Checked.refused, _>>=_, _>>_, passed, Placed}
 use Rattle.model.specs.Item.{Item}
 use Rattle.model.specs.Seek.{Entry, orderList}
@@ -20,6 +20,7 @@ use Rattle.model.specs.Order.{phraseOrder, orderOf, playOrder}
 use Rattle.model.specs.Answer.{Performance, named, ordered, performed, plainOf, flattenOf}
 use Rattle.model.specs.declared.Event.{Event}
 use Rattle.model.proofs.Tests.{by-test, first-true, second-true}
+use Rattle.reading.proofs.OneTop.{bind-fine}
 use Rattle.plain.proofs.PlainTracks.{named-fine}
 
 -- a plain form that is longer than a body can be, or than the room
@@ -47,6 +48,13 @@ test-was : {A : Type 0} (b : Bool) (m p : ℕ) (a : A) (number place : ℕ) → 
 unfolding if_then_else_ _>>_
 test-was true m p a number place e = (refl, cc, cc)
 test-was false m p a number place e = let z : _≡_ {A = ℕ} 0 1 = cc in absurd (omega arith)
+
+test-passed : (a b : Bool) (m p : ℕ) (bytes other : List ℕ) → ((if a or b then refused m p else passed) >> fine bytes) ≡ fine other
+    → (a ≡ false) × (b ≡ false) × (bytes ≡ other)
+unfolding if_then_else_ _or_ _>>_
+test-passed true b m p bytes other e = let z : _≡_ {A = ℕ} 0 1 = cc in absurd (omega arith)
+test-passed false true m p bytes other e = let z : _≡_ {A = ℕ} 0 1 = cc in absurd (omega arith)
+test-passed false false m p bytes other e = (refl, refl, cc)
 
 named-was : (o : Option Track) (number place : ℕ) → named o ≡ refused number place → (o ≡ none) × (number ≡ 16) × (place ≡ 0)
 unfolding named
@@ -92,6 +100,18 @@ module _ (buffer : List ℕ) (n row room : ℕ) where
       → length (plainOf performance) ≤ room → flattenOf buffer n row room ≡ fine (plainOf performance)
   unfolding flattenOf _>>=_ _>>_ _or_ if_then_else_
   flattened performance e short fits = rw e (simp le-ltb)
+
+  pub flattened-only-so : (bytes : List ℕ) → flattenOf buffer n row room ≡ fine bytes
+      → (performance : Performance) × (performed buffer n row ≡ fine performance) × (bytes ≡ plainOf performance)
+      × (length bytes ≤ 65536) × (length bytes ≤ room)
+  unfolding flattenOf
+  flattened-only-so bytes e =
+      let p = bind-fine _ _ bytes e in
+      let t = test-passed (65536 <? length (plainOf (p .0))) (room <? length (plainOf (p .0))) 18 (p .0 .track .header) (plainOf (p .0)) bytes (p .2) in
+      let same = t .2 in
+      let short = ltb-false 65536 (length (plainOf (p .0))) (t .0) in
+      let fits = ltb-false room (length (plainOf (p .0))) (t .1) in
+      (p .0, p .1, sym same, rw (← same) short, rw (← same) fits)
 
   -- REFUSED in each of the ways, and in no other
 

@@ -3,18 +3,20 @@
 -- track's voice, its items are exactly what was written, and as a stream without points it plays the tune that the track plays, exclusives
 -- by their bytes. And it is its own plain form.
 use Prim.Native.Nat.{ℕ, _<_}
+use mathlib.Core.Bool.{false}
 use mathlib.Core.List.{List, [], _∷_, map}
 use mathlib.Core.Option.{Option, none, some}
-use mathlib.Core.Path.{_≡_, refl, ap, subst}
+use mathlib.Core.Path.{_≡_, refl, sym, _∙_, ap, ap₂, subst}
 use native.Mathlib.Omega.{arith}
-use Rattle.model.specs.Words.{Placed, Checked.fine}
+use Rattle.model.specs.Words.{_otherwise_, firstSaid, Placed, Checked.fine}
 use Rattle.model.specs.Bytes.{_!_}
 use Rattle.model.specs.Item.{Item, bodyOf}
+use Rattle.model.specs.Seek.{startPoint, stopPoint}
 use Rattle.model.specs.Play.{Section, tuneOf, retold}
 use Rattle.model.specs.Track.{Track}
 use Rattle.model.specs.File.{File, fileOf, trackAt}
 use Rattle.model.specs.Word.{isMessage}
-use Rattle.model.specs.Order.{streamSection, playOrder, tuneIn}
+use Rattle.model.specs.Order.{streamSection, orderOf, playOrder, tuneIn}
 use Rattle.model.specs.Plain.{plainItems, plainForm}
 use Rattle.model.specs.Content.{contentOf, contentsIn, handyPhone}
 use Rattle.model.specs.Answer.{Performance, named, ordered, performed, plainOf}
@@ -67,3 +69,32 @@ plays-the-same buffer n row performance bytes e =
     plain-reads (performance .track .voice) (retold (contentOf (performance .track .body)) (performance .tune))
     (performance-writable buffer n row performance bytes e) in
     record { items = plain .items; reads = plain .reads; written = plain .written; same = plain .same; again = plain .again }
+
+-- FLATTENED AGAIN: a stream without points whose body is a plain form has that plain form.
+
+whole-order : (track : Track) → track .phrases ≡ false → track .entries ≡ [] → playOrder track ≡ some (streamSection (track .items) 0 none ∷ [])
+unfolding playOrder orderOf startPoint stopPoint firstSaid _otherwise_
+whole-order track stream points = rw (stream, points) refl
+
+-- the plain form of a body with these items, as such a stream
+abbrev streamPlain : List ℕ → List (Placed (Item Event)) → List ℕ
+streamPlain body items =
+    plainForm handyPhone (retold (contentOf body) (tuneOf isMessage (map (λ item. item .what) items) (streamSection items 0 none ∷ [])))
+
+whole-plain : (track : Track)
+    → plainOf (record { track = track; tune = tuneIn track (streamSection (track .items) 0 none ∷ []) }) ≡ streamPlain (track .body) (track .items)
+unfolding plainOf tuneIn
+whole-plain track = refl
+
+pub plain-of-plain : (performance : Performance) (track : Track) → Flattened performance → track .voice ≡ performance .track .voice
+    → track .body ≡ plainOf performance → bodyOf (track .voice) (track .body) ≡ fine (track .items) → track .phrases ≡ false → track .entries ≡ []
+    → (again : Performance) × (ordered track (playOrder track) ≡ fine again) × (plainOf again ≡ plainOf performance)
+unfolding ordered
+plain-of-plain performance track flat voice body reads stream points =
+    let order = streamSection (track .items) 0 none ∷ [] in
+    let both : fine (track .items) ≡ fine (flat .items) = sym reads ∙ rw (voice, body) (flat .reads) in
+    let items : track .items ≡ flat .items = cc in (
+      record { track = track; tune = tuneIn track order },
+      rw (whole-order track stream points) refl,
+      whole-plain track ∙ ap₂ streamPlain body items ∙ flat .again,
+    )
