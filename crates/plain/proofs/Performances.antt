@@ -1,16 +1,16 @@
 -- Paper, "Playing": what a readable track plays. Its steps never fall and end where the tune ends, section after section; and all that it
 -- plays are messages of the track's body, so that they can be written.
-use Prim.Native.Nat.{ℕ, _+_, _-_, _<_, _≤_}
+use Prim.Native.Nat.{ℕ, _+_}
 use mathlib.Core.Bool.{Bool, true, false}
 use mathlib.Core.List.{List, [], _∷_, _++_, map}
 use mathlib.Core.Option.{Option, none, some}
-use mathlib.Core.Path.{_≡_, refl, sym, _∙_, ap, subst}
+use mathlib.Core.Path.{_≡_, _∙_, subst}
 use native.Mathlib.Nat.{zero-add}
 use native.Mathlib.Omega.{arith}
 use Rattle.model.specs.Words.{if_then_else_, _≤?_, keep, sum, _otherwise_, Placed}
 use Rattle.model.specs.Item.{Item, Item.timed, Item.endMark, durationOf}
 use Rattle.model.specs.Seek.{Entry, Addresses, startPoint, stopPoint, phraseOf, orderList}
-use Rattle.model.specs.Play.{At, Tune, onsetsAfter, withMessage, messagesOf, Section, isWithin, sounding, playedFrom, tuneOf, retold}
+use Rattle.model.specs.Play.{At, onsetsAfter, withMessage, messagesOf, Section, isWithin, sounding, playedFrom, tuneOf, retold}
 use Rattle.model.specs.Points.{timeOf}
 use Rattle.model.specs.Track.{Track}
 use Rattle.model.specs.Word.{isMessage}

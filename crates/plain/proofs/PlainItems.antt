@@ -1,13 +1,13 @@
 -- Demand 3, "one plain sequence", and the paper's "Then the end mark": the items of a plain form can all be written where its messages can,
 -- and the last of them, and no other, is the end mark.
-use Prim.Native.Nat.{ℕ, zero, suc, _+_, _-_, _<_, _≤_}
-use mathlib.Core.Bool.{true, false}
+use Prim.Native.Nat.{ℕ, zero, suc, _-_, _<_, _≤_}
+use mathlib.Core.Bool.{true}
 use mathlib.Core.List.{List, [], _∷_, _++_, append-assoc, append-nil}
 use mathlib.Core.Path.{_≡_, refl, sym, _∙_, ap}
 use lib.ListN.{length, replicate}
 use native.Mathlib.Omega.{arith}
 use borrow.Author.Tests.{le-leb}
-use Rattle.model.specs.Words.{_≤?_, _≡?_}
+use Rattle.model.specs.Words.{_≤?_}
 use Rattle.model.specs.Item.{Item, Item.timed, Item.endMark}
 use Rattle.model.specs.Play.{At, Tune}
 use Rattle.model.specs.Plain.{Format, itemBytes, bytesOf, times, left, waits, rest, plainAfter, plainItems, plainForm}

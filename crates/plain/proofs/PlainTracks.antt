@@ -14,7 +14,7 @@ use Rattle.model.specs.Item.{Item, bodyOf}
 use Rattle.model.specs.Seek.{startPoint, stopPoint}
 use Rattle.model.specs.Play.{Section, tuneOf, retold}
 use Rattle.model.specs.Track.{Track}
-use Rattle.model.specs.File.{File, fileOf, trackAt}
+use Rattle.model.specs.File.{trackAt}
 use Rattle.model.specs.Word.{isMessage}
 use Rattle.model.specs.Order.{streamSection, orderOf, playOrder, tuneIn}
 use Rattle.model.specs.Plain.{plainItems, plainForm}

@@ -1,12 +1,12 @@
 -- Paper, "Playing": a stream without points plays every message of its body, at its onset, and lasts as long as its items. So what a body
 -- plays, told by the contents of its events, is told by the contents of its items.
 use Prim.Native.Nat.{ℕ, _+_, _-_}
-use mathlib.Core.List.{List, [], _∷_, _++_, map, append-nil}
+use mathlib.Core.List.{List, [], _∷_, map, append-nil}
 use mathlib.Core.Option.{none}
 use mathlib.Core.Path.{_≡_, refl, _∙_, ap, ap₂}
 use native.Mathlib.Omega.{arith}
 use borrow.Author.Tests.{le-ltb}
-use Rattle.model.specs.Words.{if_then_else_, _<?_, keep, sum, Placed}
+use Rattle.model.specs.Words.{if_then_else_, _<?_, keep, sum}
 use Rattle.model.specs.Item.{Item, Item.timed, Item.endMark, durationOf, lasting}
 use Rattle.model.specs.Play.{At, Tune, onsetsAfter, withMessage, messagesOf, sounding, playedFrom, tuneOf, retold}
 use Rattle.model.specs.Points.{timeOf}
