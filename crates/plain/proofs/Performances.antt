@@ -15,7 +15,7 @@ use Rattle.model.specs.Points.{timeOf}
 use Rattle.model.specs.Track.{Track}
 use Rattle.model.specs.Word.{isMessage}
 use Rattle.model.specs.Order.{between, streamSection, phraseSection, lettersPlayed, phraseOrder, orderOf, playOrder, tuneIn}
-use Rattle.model.specs.Content.{Content, contentOf, contentIn, contentsIn, isSaid}
+use Rattle.model.specs.Content.{contentOf, contentIn, contentsIn, isSaid}
 use Rattle.model.specs.Writing.{contentFits, itemFits}
 use Rattle.model.specs.declared.Voice.{Voice}
 use Rattle.model.specs.declared.Event.{Event}
@@ -26,7 +26,7 @@ use Rattle.sections.specs.Spans.{Items, onsets, messagesWithin, counted}
 use Rattle.sections.proofs.Steps.{Rising, rising-from, between-rises, stream-rises}
 use Rattle.plain.proofs.PlainPlays.{Rises, AllSaid}
 use Rattle.plain.proofs.PlainItems.{Writable}
-use Rattle.plain.proofs.Streams.{said-so}
+use Rattle.plain.proofs.Streams.{said-so, told}
 use Rattle.plain.proofs.PlainReads.{WritableTune}
 use Rattle.plain.proofs.NamedTracks.{Readable}
 
@@ -35,6 +35,10 @@ use Rattle.plain.proofs.NamedTracks.{Readable}
 rising-append : (low middle high : ℕ) (front back : List (At Event)) → Rising low middle front → Rising middle high back → Rising low high (front ++ back)
 rising-append low middle high [] back r q = rising-from middle low high back r q
 rising-append low middle high (at ∷ front) back r q = (r .0, rising-append (at .step) middle high front back (r .1) q)
+
+-- what sections last together
+abbrev together : List Section → ℕ
+together sections = sum (map (λ section. section .lasts) sections)
 
 module _ (items : Items) where
   -- a section whose steps rise to its end, wherever it is played
@@ -78,14 +82,17 @@ module _ (items : Items) where
       let same : streamSection items (startPoint entries otherwise 0) (stopPoint entries) ∷ [] ≡ sections = cc in
       subst AllSteady same (stream-steady (startPoint entries otherwise 0) (stopPoint entries), tt)
 
-  played-rises : (before : ℕ) (sections : List Section) → AllSteady sections
-      → Rising before (before + sum (map (λ section. section .lasts) sections)) (playedFrom isMessage (onsets 0 items) before sections)
+  abbrev played : ℕ → List Section → List (At Event)
+  played before sections = playedFrom isMessage (onsets 0 items) before sections
+
+  played-rises : (before : ℕ) (sections : List Section) → AllSteady sections → Rising before (before + together sections) (played before sections)
   unfolding playedFrom sum
   played-rises before [] steady = omega arith
   played-rises before (section ∷ sections) steady =
-      let end : before + section .lasts + sum (map (λ s. s .lasts) sections) ≡ before + (section .lasts + sum (map (λ s. s .lasts) sections)) = omega arith in
-      rising-append before (before + section .lasts) _ (sounding isMessage (onsets 0 items) before section) _ (steady .0 before)
-      (subst (λ (n : ℕ). Rising (before + section .lasts) n (playedFrom isMessage (onsets 0 items) (before + section .lasts) sections)) end (played-rises (before + section .lasts) sections (steady .1)))
+      let next = before + section .lasts in
+      let end : next + together sections ≡ before + together (section ∷ sections) = omega arith in
+      rising-append before next (before + together (section ∷ sections)) (sounding isMessage (onsets 0 items) before section) (played next sections)
+      (steady .0 before) (subst (λ (n : ℕ). Rising next n (played next sections)) end (played-rises next sections (steady .1)))
 
 -- THE MESSAGES
 
@@ -130,18 +137,15 @@ module _ (voice : Voice) (body : List ℕ) where
 
   -- told by their contents
 
-  abbrev told : At Event → At Content
-  told at = record { step = at .step; event = contentOf body (at .event) }
-
-  told-rises : (low high : ℕ) (messages : List (At Event)) → Rising low high messages → Rises low high (map told messages)
+  told-rises : (low high : ℕ) (messages : List (At Event)) → Rising low high messages → Rises low high (map (told body) messages)
   told-rises low high [] r = r
   told-rises low high (at ∷ messages) r = (r .0, told-rises (at .step) high messages (r .1))
 
-  told-said : (messages : List (At Event)) → Sound messages → AllSaid isSaid (map told messages)
+  told-said : (messages : List (At Event)) → Sound messages → AllSaid isSaid (map (told body) messages)
   told-said [] s = tt
   told-said (at ∷ messages) s = (said-so body (at .event) ∙ s .0, told-said messages (s .2))
 
-  told-writable : (messages : List (At Event)) → Sound messages → Writable voice (map told messages)
+  told-writable : (messages : List (At Event)) → Sound messages → Writable voice (map (told body) messages)
   told-writable [] s = tt
   told-writable (at ∷ messages) s = (s .1, told-writable messages (s .2))
 
@@ -152,12 +156,11 @@ unfolding playOrder tuneIn tuneOf retold
 tune-writable track sections readable e =
     let fit = body-fits (track .voice) (track .body) (readable .bytes) (track .items) (readable .reads) in
     let sound = played-sound (track .voice) (track .body) (track .items) fit 0 sections in
-    let rises =
-    subst (λ (end : ℕ). Rising 0 end (playedFrom isMessage (onsets 0 (track .items)) 0 sections)) (zero-add (sum (map (λ section. section .lasts) sections)))
-    (played-rises (track .items) 0 sections (order-steady (track .items) (track .phrases) (track .entries) sections e)) in
-    let played = playedFrom isMessage (onsets 0 (track .items)) 0 sections in
+    let steady = order-steady (track .items) (track .phrases) (track .entries) sections e in
+    let all = played (track .items) 0 sections in
+    let rises = subst (λ (end : ℕ). Rising 0 end all) (zero-add (together sections)) (played-rises (track .items) 0 sections steady) in
     record {
-      rises = told-rises (track .voice) (track .body) 0 (sum (map (λ section. section .lasts) sections)) played rises;
-      said = told-said (track .voice) (track .body) played sound;
-      writable = told-writable (track .voice) (track .body) played sound;
+      rises = told-rises (track .voice) (track .body) 0 (together sections) all rises;
+      said = told-said (track .voice) (track .body) all sound;
+      writable = told-writable (track .voice) (track .body) all sound;
     }

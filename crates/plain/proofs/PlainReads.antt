@@ -45,6 +45,7 @@ module _ (voice : Voice) (tune : Tune Content) (ok : WritableTune voice tune) wh
   pub plain-reads : Plain voice tune
   unfolding plainForm plainItems
   plain-reads =
-      let read = sequence-reads voice (plainItems handyPhone tune) (plain-some tune) (plain-fits voice 0 (tune .messages) (tune .end) (ok .writable)) (plain-marked tune) in
+      let fit = plain-fits voice 0 (tune .messages) (tune .end) (ok .writable) in
+      let read = sequence-reads voice (plainItems handyPhone tune) (plain-some tune) fit (plain-marked tune) in
       let same = stream-told (plainForm handyPhone tune) (read .0) ∙ items-play (contentsIn (plainForm handyPhone tune) (read .0)) (read .2) in
       record { items = read .0; reads = read .1; written = read .2; same = same; again = ap (plainForm handyPhone) same }

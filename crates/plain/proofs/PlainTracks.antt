@@ -4,7 +4,7 @@
 -- by their bytes. And it is its own plain form.
 use Prim.Native.Nat.{ℕ, _<_}
 use mathlib.Core.Bool.{false}
-use mathlib.Core.List.{List, [], _∷_, map}
+use mathlib.Core.List.{List, [], _∷_}
 use mathlib.Core.Option.{Option, none, some}
 use mathlib.Core.Path.{_≡_, refl, sym, _∙_, ap, ap₂, subst}
 use native.Mathlib.Omega.{arith}
@@ -12,16 +12,16 @@ use Rattle.model.specs.Words.{_otherwise_, firstSaid, Placed, Checked.fine}
 use Rattle.model.specs.Bytes.{_!_}
 use Rattle.model.specs.Item.{Item, bodyOf}
 use Rattle.model.specs.Seek.{startPoint, stopPoint}
-use Rattle.model.specs.Play.{Section, tuneOf, retold}
+use Rattle.model.specs.Play.{Section, retold}
 use Rattle.model.specs.Track.{Track}
 use Rattle.model.specs.File.{trackAt}
-use Rattle.model.specs.Word.{isMessage}
 use Rattle.model.specs.Order.{streamSection, orderOf, playOrder, tuneIn}
 use Rattle.model.specs.Plain.{plainItems, plainForm}
 use Rattle.model.specs.Content.{contentOf, contentsIn, handyPhone}
 use Rattle.model.specs.Answer.{Performance, named, ordered, performed, plainOf}
 use Rattle.model.specs.declared.Event.{Event}
 use Rattle.reading.proofs.OneTop.{bind-fine}
+use Rattle.plain.proofs.Streams.{streamed}
 use Rattle.plain.proofs.PlainReads.{WritableTune, plain-reads}
 use Rattle.plain.proofs.NamedTracks.{named-reads}
 use Rattle.plain.proofs.Performances.{tune-writable}
@@ -50,16 +50,14 @@ performance-writable buffer n row performance bytes e =
     subst (λ (p : Performance). WritableTune (p .track .voice) (retold (contentOf (p .track .body)) (p .tune))) (order .2)
     (tune-writable (track .0) (order .0) (named-reads buffer n row (file .0) (track .0) bytes (file .1) there) (order .1))
 
--- THE PLAIN FORM of a performance
-
+-- THE PLAIN FORM of a performance: its items, that they are what was written, that as a stream without points they play the same tune, and
+-- that flattening it again gives it.
 pub record Flattened (performance : Performance) : Type 0 where
   pub items : List (Placed (Item Event))
   pub reads : bodyOf (performance .track .voice) (plainOf performance) ≡ fine items
   pub written : contentsIn (plainOf performance) items ≡ plainItems handyPhone (retold (contentOf (performance .track .body)) (performance .tune))
-  pub same : retold (contentOf (plainOf performance)) (tuneOf isMessage (map (λ item. item .what) items) (streamSection items 0 none ∷ []))
-      ≡ retold (contentOf (performance .track .body)) (performance .tune)
-  pub again : plainForm handyPhone (retold (contentOf (plainOf performance)) (tuneOf isMessage (map (λ item. item .what) items) (streamSection items 0 none ∷ [])))
-      ≡ plainOf performance
+  pub same : retold (contentOf (plainOf performance)) (streamed items) ≡ retold (contentOf (performance .track .body)) (performance .tune)
+  pub again : plainForm handyPhone (retold (contentOf (plainOf performance)) (streamed items)) ≡ plainOf performance
 
 pub plays-the-same : (buffer : List ℕ) (n row : ℕ) (performance : Performance) → ((k : ℕ) → buffer ! k < 256) → performed buffer n row ≡ fine performance
     → Flattened performance
@@ -78,8 +76,7 @@ whole-order track stream points = rw (stream, points) refl
 
 -- the plain form of a body with these items, as such a stream
 abbrev streamPlain : List ℕ → List (Placed (Item Event)) → List ℕ
-streamPlain body items =
-    plainForm handyPhone (retold (contentOf body) (tuneOf isMessage (map (λ item. item .what) items) (streamSection items 0 none ∷ [])))
+streamPlain body items = plainForm handyPhone (retold (contentOf body) (streamed items))
 
 whole-plain : (track : Track)
     → plainOf (record { track = track; tune = tuneIn track (streamSection (track .items) 0 none ∷ []) }) ≡ streamPlain (track .body) (track .items)

@@ -59,12 +59,13 @@ said-so body (Wave channel number gate) = refl
 said-so body (Control kind channel value) = refl
 said-so body (Exclusive place size) = refl
 
-module _ (body : List ℕ) where
-  abbrev told : At Event → At Content
-  told at = record { step = at .step; event = contentOf body (at .event) }
+-- a message of a body, told by its content
+abbrev pub told : List ℕ → At Event → At Content
+told body at = record { step = at .step; event = contentOf body (at .event) }
 
+module _ (body : List ℕ) where
   with-told : (onset : ℕ) (item : Item Event) (messages : List (At Event))
-      → map told (withMessage isMessage onset item messages) ≡ withMessage isSaid onset (contentIn body item) (map told messages)
+      → map (told body) (withMessage isMessage onset item messages) ≡ withMessage isSaid onset (contentIn body item) (map (told body) messages)
   unfolding withMessage contentIn if_then_else_
   with-told onset (timed duration event) messages = rw (said-so body event) (by-test (isMessage event) (λ t. simp t) (λ t. simp t))
   with-told onset endMark messages = refl
@@ -74,7 +75,7 @@ module _ (body : List ℕ) where
   duration-told (timed duration event) = refl
   duration-told endMark = refl
 
-  messages-told : (past : ℕ) (items : Items) → map told (messagesAfter past items) ≡ messagesOf isSaid (onsetsAfter past (contentsIn body items))
+  messages-told : (past : ℕ) (items : Items) → map (told body) (messagesAfter past items) ≡ messagesOf isSaid (onsetsAfter past (contentsIn body items))
   unfolding contentsIn onsetsAfter messagesOf
   messages-told past [] = refl
   messages-told past (item ∷ items) =
@@ -93,4 +94,4 @@ module _ (body : List ℕ) where
   unfolding retold
   stream-told items =
       ap₂ (λ (messages : List (At Content)) (end : ℕ). record { messages = messages; end = end })
-      (ap (map told) (stream-messages items) ∙ messages-told 0 items) (stream-end items ∙ lasting-told items)
+      (ap (map (told body)) (stream-messages items) ∙ messages-told 0 items) (stream-end items ∙ lasting-told items)
