@@ -38,11 +38,11 @@ unfolding countedFrom
 counted-fine base (fine b) a e = e
 counted-fine base (refused number place) a e = let z : _≡_ {A = ℕ} 0 1 = cc in absurd (omega arith)
 
-pub record Body (s : List ℕ) (track : Track) : Type 0 where
-  pub place : ℕ
-  pub size : ℕ
-  pub is : track .body ≡ part s place size
-  pub reads : bodyOf (track .voice) (track .body) ≡ fine (track .items)
+record Body (s : List ℕ) (track : Track) : Type 0 where
+  place : ℕ
+  size : ℕ
+  is : track .body ≡ part s place size
+  reads : bodyOf (track .voice) (track .body) ≡ fine (track .items)
 
 abbrev trackOr : Track → Checked Track → Track
 trackOr other (fine track) = track

@@ -69,14 +69,15 @@ module _ (E : Type 0) (format : Format E) where
       ap (λ (bytes : List ℕ). itemBytes format item ++ bytes) (bytes-append front back)
       ∙ sym (append-assoc (itemBytes format item) (bytesOf format front) (bytesOf format back))
 
-  -- so its bytes are those of the items before, and those of the end mark
-  pub plain-closes : (tune : Tune E)
-      → plainForm format tune ≡ bytesOf format (plain-ends 0 (tune .messages) (tune .end) .front) ++ format .endBytes
+  -- so the last bytes are those of the end mark
+  pub plain-closes : (tune : Tune E) → (front : List ℕ) × (plainForm format tune ≡ front ++ format .endBytes)
   unfolding plainForm plainItems bytesOf itemBytes
   plain-closes tune =
       let ended = plain-ends 0 (tune .messages) (tune .end) in
-      ap (bytesOf format) (ended .is) ∙ bytes-append (ended .front) (endMark ∷ [])
-      ∙ ap (λ (bytes : List ℕ). bytesOf format (ended .front) ++ bytes) (append-nil (format .endBytes))
+      let front = bytesOf format (ended .front) in (
+        front,
+        ap (bytesOf format) (ended .is) ∙ bytes-append (ended .front) (endMark ∷ []) ∙ ap (λ (bytes : List ℕ). front ++ bytes) (append-nil (format .endBytes)),
+      )
 
 -- messages whose contents can all be written
 abbrev pub Writable : Voice → List (At Content) → Type 0

@@ -2,7 +2,7 @@
 -- messages can be written: its plain form is a body, the body's items are exactly what was written, and as a stream without points it plays
 -- that tune. Flattening it again gives it.
 use Prim.Native.Nat.{ℕ}
-use mathlib.Core.List.{List}
+use mathlib.Core.List.{List, [], _∷_, _++_}
 use mathlib.Core.Path.{_≡_, refl, _∙_, ap, ap₂}
 use native.Mathlib.Omega.{arith}
 use Rattle.model.specs.Words.{Checked.fine}
@@ -14,7 +14,7 @@ use Rattle.model.specs.declared.Voice.{Voice}
 use Rattle.inverse.proofs.WrittenReads.{sequence-reads}
 use Rattle.sections.specs.Spans.{Items}
 use Rattle.plain.proofs.PlainPlays.{Rises, AllSaid, durations, plain-plays, plain-lasts}
-use Rattle.plain.proofs.PlainItems.{Writable, plain-fits, plain-marked, plain-some}
+use Rattle.plain.proofs.PlainItems.{Writable, plain-fits, plain-closes, plain-marked, plain-some}
 use Rattle.plain.proofs.Streams.{streamed, stream-told}
 
 -- a tune that can be written: its messages never fall back, end where it ends, and are messages of the voice
@@ -27,6 +27,7 @@ pub record WritableTune (voice : Voice) (tune : Tune Content) : Type 0 where
 pub record Plain (voice : Voice) (tune : Tune Content) : Type 0 where
   pub items : Items
   pub reads : bodyOf voice (plainForm handyPhone tune) ≡ fine items
+  pub closed : (front : List ℕ) × (plainForm handyPhone tune ≡ front ++ (0 ∷ 0 ∷ 0 ∷ 0 ∷ []))
   pub written : contentsIn (plainForm handyPhone tune) items ≡ plainItems handyPhone tune
   pub same : retold (contentOf (plainForm handyPhone tune)) (streamed items) ≡ tune
   pub again : plainForm handyPhone (retold (contentOf (plainForm handyPhone tune)) (streamed items)) ≡ plainForm handyPhone tune
@@ -48,4 +49,4 @@ module _ (voice : Voice) (tune : Tune Content) (ok : WritableTune voice tune) wh
       let fit = plain-fits voice 0 (tune .messages) (tune .end) (ok .writable) in
       let read = sequence-reads voice (plainItems handyPhone tune) (plain-some tune) fit (plain-marked tune) in
       let same = stream-told (plainForm handyPhone tune) (read .0) ∙ items-play (contentsIn (plainForm handyPhone tune) (read .0)) (read .2) in
-      record { items = read .0; reads = read .1; written = read .2; same = same; again = ap (plainForm handyPhone) same }
+      record { items = read .0; reads = read .1; closed = plain-closes Content handyPhone tune; written = read .2; same = same; again = ap (plainForm handyPhone) same }

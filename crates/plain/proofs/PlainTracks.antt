@@ -4,7 +4,7 @@
 -- by their bytes. And it is its own plain form.
 use Prim.Native.Nat.{ℕ, _<_}
 use mathlib.Core.Bool.{false}
-use mathlib.Core.List.{List, [], _∷_}
+use mathlib.Core.List.{List, [], _∷_, _++_}
 use mathlib.Core.Option.{Option, none, some}
 use mathlib.Core.Path.{_≡_, refl, sym, _∙_, ap, ap₂, subst}
 use native.Mathlib.Omega.{arith}
@@ -33,7 +33,7 @@ unfolding named
 named-fine none track e = let z : _≡_ {A = ℕ} 0 1 = cc in absurd (omega arith)
 named-fine (some one) track e = let same : one ≡ track = cc in ap some same
 
-pub ordered-fine : (track : Track) (o : Option (List Section)) (performance : Performance) → ordered track o ≡ fine performance
+ordered-fine : (track : Track) (o : Option (List Section)) (performance : Performance) → ordered track o ≡ fine performance
     → (sections : List Section) × (o ≡ some sections) × (_≡_ {A = Performance} (record { track = track; tune = tuneIn track sections }) performance)
 unfolding ordered
 ordered-fine track none performance e = let z : _≡_ {A = ℕ} 0 1 = cc in absurd (omega arith)
@@ -50,11 +50,12 @@ performance-writable buffer n row performance bytes e =
     subst (λ (p : Performance). WritableTune (p .track .voice) (retold (contentOf (p .track .body)) (p .tune))) (order .2)
     (tune-writable (track .0) (order .0) (named-reads buffer n row (file .0) (track .0) bytes (file .1) there) (order .1))
 
--- THE PLAIN FORM of a performance: its items, that they are what was written, that as a stream without points they play the same tune, and
--- that flattening it again gives it.
+-- THE PLAIN FORM of a performance: its items, its last four bytes, that the items are what was written, that as a stream without points
+-- they play the same tune, and that flattening it again gives it.
 pub record Flattened (performance : Performance) : Type 0 where
   pub items : List (Placed (Item Event))
   pub reads : bodyOf (performance .track .voice) (plainOf performance) ≡ fine items
+  pub closed : (front : List ℕ) × (plainOf performance ≡ front ++ (0 ∷ 0 ∷ 0 ∷ 0 ∷ []))
   pub written : contentsIn (plainOf performance) items ≡ plainItems handyPhone (retold (contentOf (performance .track .body)) (performance .tune))
   pub same : retold (contentOf (plainOf performance)) (streamed items) ≡ retold (contentOf (performance .track .body)) (performance .tune)
   pub again : plainForm handyPhone (retold (contentOf (plainOf performance)) (streamed items)) ≡ plainOf performance
@@ -66,7 +67,7 @@ plays-the-same buffer n row performance bytes e =
     let plain =
     plain-reads (performance .track .voice) (retold (contentOf (performance .track .body)) (performance .tune))
     (performance-writable buffer n row performance bytes e) in
-    record { items = plain .items; reads = plain .reads; written = plain .written; same = plain .same; again = plain .again }
+    record { items = plain .items; reads = plain .reads; closed = plain .closed; written = plain .written; same = plain .same; again = plain .again }
 
 -- FLATTENED AGAIN: a stream without points whose body is a plain form has that plain form.
 
