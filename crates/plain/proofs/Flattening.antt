@@ -21,6 +21,7 @@ use Rattle.model.specs.Answer.{Performance, named, ordered, performed, plainOf,
 use Rattle.model.specs.declared.Event.{Event}
 use Rattle.model.proofs.Tests.{by-test, first-true, second-true}
 use Rattle.reading.proofs.OneTop.{bind-fine}
+use Rattle.plain.proofs.FileRefusals.{file-refused}
 use Rattle.plain.proofs.PlainTracks.{named-fine}
 
 -- a plain form that is longer than a body can be, or than the room
@@ -28,7 +29,7 @@ abbrev pub TooLong : ℕ → Performance → Type 0
 TooLong room performance = (65536 < length (plainOf performance)) ⊎ (room < length (plainOf performance))
 
 pub data Refusal (buffer : List ℕ) (n row room number place : ℕ) : Type 0 where
-  unread : fileOf buffer n ≡ refused number place → Refusal buffer n row room number place
+  unread : fileOf buffer n ≡ refused number place → 1 ≤ number → number ≤ 14 → Refusal buffer n row room number place
   unnamed : (file : File) → fileOf buffer n ≡ fine file → trackAt file row ≡ none → number ≡ 16 → place ≡ 0 → Refusal buffer n row room number place
   unordered : (file : File) (track : Track) → fileOf buffer n ≡ fine file → trackAt file row ≡ some track → track .phrases ≡ true
       → orderList (track .entries) ≡ none → number ≡ 17 → place ≡ track .header → Refusal buffer n row room number place
@@ -138,7 +139,7 @@ module _ (buffer : List ℕ) (n row room : ℕ) where
 
   pub refused-so : (number place : ℕ) → Refusal buffer n row room number place → flattenOf buffer n row room ≡ refused number place
   unfolding flattenOf performed named ordered _>>=_
-  refused-so number place (unread e) = rw e
+  refused-so number place (unread e low high) = rw e
   refused-so number place (unnamed file e t a b) = rw (e, t, a, b)
   refused-so number place (unordered file track e t p l a b) = rw (e, t, no-order track p l, a, b)
   refused-so number place (overlong performance e long a b) = refused-long performance e long ∙ ap₂ (λ (m p : ℕ). refused m p) (sym a) (sym b)
@@ -147,7 +148,7 @@ module _ (buffer : List ℕ) (n row room : ℕ) where
   unfolding performed
   not-performed number place e =
       elim (bind-was (fileOf buffer n) _ number place e) [
-        | inl f ↦ unread f
+        | inl f ↦ let numbers = file-refused buffer n number place f in unread f (numbers .0) (numbers .1)
         | inr f ↦
             elim (bind-was (named (trackAt (f .0) row)) _ number place (f .2)) [
               | inl t ↦ let w = named-was (trackAt (f .0) row) number place t in unnamed (f .0) (f .1) (w .0) (w .1) (w .2)

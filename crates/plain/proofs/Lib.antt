@@ -6,4 +6,5 @@ pub mod PlainReads
 pub mod NamedTracks
 pub mod Performances
 pub mod PlainTracks
+pub mod FileRefusals
 pub mod Flattening

@@ -49,4 +49,11 @@ module _ (voice : Voice) (tune : Tune Content) (ok : WritableTune voice tune) wh
       let fit = plain-fits voice 0 (tune .messages) (tune .end) (ok .writable) in
       let read = sequence-reads voice (plainItems handyPhone tune) (plain-some tune) fit (plain-marked tune) in
       let same = stream-told (plainForm handyPhone tune) (read .0) ∙ items-play (contentsIn (plainForm handyPhone tune) (read .0)) (read .2) in
-      record { items = read .0; reads = read .1; closed = plain-closes Content handyPhone tune; written = read .2; same = same; again = ap (plainForm handyPhone) same }
+      record {
+        items = read .0;
+        reads = read .1;
+        closed = plain-closes Content handyPhone tune;
+        written = read .2;
+        same = same;
+        again = ap (plainForm handyPhone) same;
+      }
