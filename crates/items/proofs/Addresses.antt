@@ -74,7 +74,7 @@ seek-starts voice s address h =
     }
 
 -- items from a place on have places from there on
-pub none-before : (voice : Voice) (s : List ℕ) (address at : ℕ) (items : Items) → Standing voice s at items → address ≤ at
+none-before : (voice : Voice) (s : List ℕ) (address at : ℕ) (items : Items) → Standing voice s at items → address ≤ at
     → timeIn items address ≡ 0
 unfolding keep lasting sum if_then_else_
 none-before voice s address at [] st h = refl

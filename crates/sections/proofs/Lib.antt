@@ -6,4 +6,6 @@ pub mod Rowing
 pub mod Walking
 pub mod Nearing
 pub mod Spanning
+pub mod Small
 pub mod Steps
+pub mod Tunes

@@ -30,7 +30,7 @@ unfoldable pub heardIn : Item Event → ℕ
 heardIn (timed duration event) = messagesIn event
 heardIn endMark = 0
 
-heard-one : (what : Item Event) → heardIn what ≤ 1
+pub heard-one : (what : Item Event) → heardIn what ≤ 1
 unfolding heardIn messagesIn if_then_else_
 heard-one (timed duration event) = by-test (isMessage event) (λ t. simp t (omega arith)) (λ t. simp t (omega arith))
 heard-one endMark = omega arith
@@ -75,7 +75,8 @@ module _ (voice : Voice) (s : List ℕ) where
   abbrev pub Reaches : ℕ → Type 0
   Reaches address = (r : Reached) × (rest : Items) × Walking voice s r rest × (r .at ≡ address)
 
-  pub reach : (rest : Items) (r : Reached) → Walking voice s r rest → (address : ℕ) → r .at ≤ address → isAddress all (length s) address ≡ true → Reaches address
+  pub reach : (rest : Items) (r : Reached) → Walking voice s r rest → (address : ℕ) → r .at ≤ address
+      → isAddress all (length s) address ≡ true → Reaches address
   unfolding any _or_
   reach [] r w address h is = (r, [], w, w .stands ∙ eqb-true (length s) address (w .theres address h ∙ is))
   reach (item ∷ rest) r w address h is =
@@ -83,7 +84,8 @@ module _ (voice : Voice) (s : List ℕ) where
       elim (decLt (r .at) address) [
         | yes q ↦
             let at = passed-at r (durationOf (item .what)) (heardIn (item .what)) next in
-            reach rest (passedBy r (durationOf (item .what)) (heardIn (item .what)) next) (on r item rest w) address (omega (arith, near-next r item rest w address q is)) is
+            let near = near-next r item rest w address q is in
+            reach rest (passedBy r (durationOf (item .what)) (heardIn (item .what)) next) (on r item rest w) address (omega arith) is
         | no q ↦ (r, item ∷ rest, w, omega arith)
       ]
 
@@ -139,8 +141,8 @@ module _ (voice : Voice) (s : List ℕ) where
       unfolding itemStep
       stands j e = ap (itemMet (r .at)) (sym read ∙ e)
 
-      further : (what : Item Event) (next : ℕ) (z : Reached) → itemStep voice s (r .at) ≡ met (record { place = r .at; what = what }) next → durationOf what < 4294967296
-          → z ≡ passedBy r (durationOf what) (heardIn what) next → Nearing address z × (length s - z .at < length s - r .at)
+      further : (what : Item Event) (next : ℕ) (z : Reached) → itemStep voice s (r .at) ≡ met (record { place = r .at; what = what }) next
+          → durationOf what < 4294967296 → z ≡ passedBy r (durationOf what) (heardIn what) next → Nearing address z × (length s - z .at < length s - r .at)
       further what next z e small q =
           let item = first .0 in
           let w = first .2 in

@@ -128,8 +128,10 @@ module _ (voice : Voice) (s : List ℕ) (span : Span) (before : ℕ) (l m : List
   nothing-left : (rows : List (At Event)) → next-rows before (span .start) (end - row) time (r .rest) ≡ rows → rows ≡ []
       → (out ≡ sets l at (stepsOf (spanRows (itemsOf voice s) span before))) × (outs ≡ sets m at (wordsOf (spanRows (itemsOf voice s) span before)))
   unfolding stepsOf wordsOf
-  nothing-left rows e none =
-      (ap (λ (x : List (At Event)). sets out row (stepsOf x)) (sym (e ∙ none)) ∙ r .steps, ap (λ (x : List (At Event)). sets outs row (wordsOf x)) (sym (e ∙ none)) ∙ r .words)
+  nothing-left rows e none = (
+    ap (λ (x : List (At Event)). sets out row (stepsOf x)) (sym (e ∙ none)) ∙ r .steps,
+    ap (λ (x : List (At Event)). sets outs row (wordsOf x)) (sym (e ∙ none)) ∙ r .words,
+  )
 
   full : row ≡ end → next-rows before (span .start) (end - row) time (r .rest) ≡ []
   full e = let none : end - row ≡ 0 = omega arith in rw none refl
@@ -209,11 +211,6 @@ module _ (voice : Voice) (s : List ℕ) (span : Span) (before : ℕ) (l m : List
       unfolding durationOf
       row-not-before = subst (NotBefore (span .start) time) (read .1) (r .ahead)
 
-      pub row-step-fits : before ≤ 4611686018427387904 → before + (time + duration - span .start) < 18446744073709551616
-      row-step-fits h =
-          let d = subst ItemInWord (sym is ∙ e) (item-in-word s (r .bytes) (r .small) voice place) .0 in
-          omega (arith, r .short, r .small)
-
       pub row-nears : length s - next < length s - place
       unfolding itemMet
       row-nears = let a = stands-ahead voice s place _ next (stands (Timed duration event next) e) in omega arith
@@ -237,9 +234,6 @@ module _ (voice : Voice) (s : List ℕ) (span : Span) (before : ℕ) (l m : List
 
         pub row-room-words : row < length outs
         row-room-words = omega (arith, r .few, r .room-words)
-
-        pub row-counts : row + 1 < 18446744073709551616
-        row-counts = omega (arith, r .few, r .fits)
 
         pub row-sounds : (b : Bool) (m₁ m₂ : List ℕ) → b ≡ isMessage event → b ≡ true → m₁ ≡ set out row (before + (time + duration - span .start))
             → m₂ ≡ set outs row (wordOf event) → Rowing voice s span before l m at end m₁ m₂ (row + 1) next (time + duration)
@@ -302,4 +296,6 @@ module _ (voice : Voice) (s : List ℕ) (span : Span) (before : ℕ) (l m : List
       pub words-never : outs ≡ sets m at (wordsOf (spanRows (itemsOf voice s) span before))
       words-never = absurd never
 
-pub ruleset rowing = (steps-full, words-full, steps-over, words-over, row-in-word, row-not-before, row-step-fits, row-nears, row-silent, row-room-steps, row-room-words, row-counts, row-sounds, row-nears-mark, row-marks, steps-never, words-never)
+pub ruleset row-turns = (row-in-word, row-not-before, row-nears, row-silent, row-room-steps, row-room-words, row-sounds, row-nears-mark, row-marks)
+
+pub ruleset row-ends = (steps-full, words-full, steps-over, words-over, steps-never, words-never)

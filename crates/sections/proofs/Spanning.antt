@@ -3,7 +3,7 @@ use Prim.Native.Nat.{ℕ, _+_, _-_, _<_, _≤_}
 use mathlib.Core.Bool.{Bool, true, false}
 use mathlib.Core.List.{List, [], _∷_}
 use mathlib.Core.Option.{none}
-use mathlib.Core.Path.{_≡_, refl, sym, _∙_, ap}
+use mathlib.Core.Path.{_≡_, refl, sym, _∙_, ap, subst}
 use lib.ListN.{length}
 use native.Mathlib.Omega.{arith}
 use borrow.Author.Tests.{eq-eqb, le-ltb, lt-ltb, le-leb, lt-leb, ltb-true, ltb-false}
@@ -21,7 +21,7 @@ use Rattle.model.proofs.Tests.{by-test}
 use Rattle.items.proofs.Addresses.{placed-at, stands-ahead, one-there, reads-to-items}
 use Rattle.items.proofs.Standing.{body-stands}
 use Rattle.sections.specs.Spans.{Items, onsets, messagesAfter, messagesWithin, spanOf}
-use Rattle.sections.specs.Reaching.{messagesTo, itemsTo, reachedOf, spanTo, Walked}
+use Rattle.sections.specs.Reaching.{messagesTo, itemsTo, reachedOf, atHead, spanTo, Walked}
 use Rattle.sections.proofs.Places.{Standing, stands-within}
 use Rattle.sections.proofs.Stretches.{within, below, all-kept}
 use Rattle.sections.proofs.Nearing.{says, reach}
@@ -60,6 +60,9 @@ times-grow start stop (item ∷ items) h =
     simp lt-ltb (omega arith))
     (λ t. by-test (item .place <? stop) (λ u. simp (t, u) (omega arith)) (λ u. simp (t, u) rest))
 
+pub head-first : (r : Reached) (address : ℕ) → r ≡ atHead → r .at ≤ address
+head-first r address e = subst (λ (x : Reached). x .at ≤ address) (sym e) (omega arith)
+
 or-last : (a b : Bool) → b ≡ true → (a or b) ≡ true
 unfolding _or_
 or-last true b h = refl
@@ -77,19 +80,18 @@ module _ (voice : Voice) (s : List ℕ) where
       let early : item .place < length s = omega (arith, placed-at voice s at item (st .0) (st .1)) in
       simp lt-ltb (ap (λ (rest : Items). item ∷ rest) (all-to (st .0) items (st .2)))
 
-  same-but-messages : (first past start lasts m n : ℕ) → m ≡ n
-      → _≡_ {A = Span} (record { first = first; past = past; start = start; messages = m; lasts = lasts }) (record { first = first; past = past; start = start; messages = n; lasts = lasts })
-  same-but-messages first past start lasts m n e =
-      ap (λ (k : ℕ). record { first = first; past = past; start = start; messages = k; lasts = lasts }) e
+  abbrev spanWith : ℕ → ℕ → ℕ → ℕ → ℕ → Span
+  spanWith first past start lasts messages = record { first = first; past = past; start = start; messages = messages; lasts = lasts }
 
   module _ (fine : isFine (bodyOf voice s) ≡ true) where
     stand : Standing voice s 0 all
     stand = body-stands voice s all (reads-to-items voice s fine)
 
-    pub head-walked : Walked all (length s) (record { at = 0; time = 0; messages = 0; first = 0; past = 0; passed = 0 })
+    pub head-walked : (r : Reached) → r ≡ atHead → Walked all (length s) r
     unfolding isAddress
-    head-walked =
-        record { is = walking-is voice s _ all (walking-starts voice s fine); address = one-there voice s 0 all stand; small = omega arith }
+    head-walked r e =
+        subst (Walked all (length s)) (sym e)
+        (record { is = walking-is voice s atHead all (walking-starts voice s fine); address = one-there voice s 0 all stand; small = omega arith })
 
     -- an address is at most the body's size
     pub address-within : (address : ℕ) → isAddress all (length s) address ≡ true → address ≤ length s
@@ -116,7 +118,8 @@ module _ (voice : Voice) (s : List ℕ) where
       unfolding isBelow between timeOf
       apart =
           counted-apart (between (timeOf all start) (timeOf all stop))
-          (λ onset h. let under : onset < timeOf all stop = omega (arith, times-grow start stop all ordered) in lt-ltb onset (timeOf all stop) under) (onsets 0 all)
+          (λ onset h. let under : onset < timeOf all stop = omega (arith, times-grow start stop all ordered) in lt-ltb onset (timeOf all stop) under)
+          (onsets 0 all)
 
       pub passed-falls-not : from .passed ≤ to .passed
       unfolding reachedOf
@@ -124,13 +127,10 @@ module _ (voice : Voice) (s : List ℕ) where
 
       pub between-is : (r : Span) → r ≡ spanTo from (to .passed) (to .time) → r ≡ spanOf all (length s) (between (timeOf all start) (timeOf all stop))
       unfolding reachedOf spanTo spanOf between
-      between-is r e = e ∙ rw (there, after) (same-but-messages _ _ _ _ _ _ (omega (arith, apart)))
+      between-is r e = e ∙ rw (there, after) (ap (spanWith _ _ _ _) (omega (arith, apart)))
 
     -- to the body's end
-    module _ (fine : isFine (bodyOf voice s) ≡ true) (is : isAddress all (length s) start ≡ true) (to : Reached) (after : to ≡ reachedOf all (length s) (length s)) where
-      pub time-falls-not-on : from .time ≤ to .time
-      time-falls-not-on = time-falls-not (length s) to after (address-within fine start is)
-
+    module _ (fine : isFine (bodyOf voice s) ≡ true) (to : Reached) (after : to ≡ reachedOf all (length s) (length s)) where
       on-apart : length (messagesAfter 0 all) ≡ messagesTo (timeOf all start) 0 all + length (messagesWithin (streamSection all start none) all)
       unfolding isBelow streamSection
       on-apart =
@@ -143,6 +143,8 @@ module _ (voice : Voice) (s : List ℕ) where
 
       pub stream-is : (r : Span) → r ≡ spanTo from (to .messages) (to .time) → r ≡ spanOf all (length s) (streamSection all start none)
       unfolding reachedOf spanTo spanOf streamSection timeOf
-      stream-is r e = e ∙ rw (there, after, all-to 0 all (stand fine)) (same-but-messages _ _ _ _ _ _ (omega (arith, on-apart)))
+      stream-is r e = e ∙ rw (there, after, all-to 0 all (stand fine)) (ap (spanWith _ _ _ _) (omega (arith, on-apart)))
 
-pub ruleset spanning = (head-walked, size-is-address, at-start, address-within, time-falls-not, passed-falls-not, between-is, time-falls-not-on, passed-falls-not-on, stream-is)
+pub ruleset reaching = (head-walked, head-first, size-is-address, at-start, address-within)
+
+pub ruleset spanning = (time-falls-not, passed-falls-not, between-is, passed-falls-not-on, stream-is)

@@ -63,7 +63,9 @@ module _ (before : ℕ) (section : Section) where
       let onset = past + durationOf (item .what) in
       let on = ends-on past item items ends in
       by-test (isWithin section onset)
-      (λ t. simp t (with-rises low onset (item .what) (messagesOf isMessage (keep (within section) (onsets onset items))) (omega arith) (kept-rise (stepAt onset) onset items (ends-here past item items ends t) (omega arith) on)))
+      (λ t.
+      let rest = kept-rise (stepAt onset) onset items (ends-here past item items ends t) (omega arith) on in
+      simp t (with-rises low onset (item .what) (messagesOf isMessage (keep (within section) (onsets onset items))) (omega arith) rest))
       (λ t. simp t (kept-rise low onset items h (omega arith) on))
 
   rises : (items : Items) → Ends 0 items → Rising before end (sounding isMessage (onsets 0 items) before section)

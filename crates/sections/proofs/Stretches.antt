@@ -26,6 +26,10 @@ within section at = isWithin section (at .step)
 abbrev pub below : Option ℕ → At (Item Event) → Bool
 below to at = isBelow (at .step) to
 
+-- an item in front of what is kept of those after it
+abbrev kept-first : Option ℕ → ℕ → Item Event → List (At (Item Event)) → List (At (Item Event))
+kept-first to onset item rest = if isBelow onset to then record { step = onset; event = item } ∷ rest else rest
+
 -- past a section's start only the bound counts
 pub kept-after : (section : Section) (past : ℕ) (items : Items) → section .from ≤ past
     → keep (within section) (onsets past items) ≡ keep (below (section .to)) (onsets past items)
@@ -34,8 +38,7 @@ kept-after section past [] h = refl
 kept-after section past (item ∷ items) h =
     let here : section .from ≤ past + durationOf (item .what) = omega arith in
     simp le-leb
-    (ap
-    (λ (rest : List (At (Item Event))). if isBelow (past + durationOf (item .what)) (section .to) then record { step = past + durationOf (item .what); event = item .what } ∷ rest else rest)
+    (ap (λ (rest : List (At (Item Event))). kept-first (section .to) (past + durationOf (item .what)) (item .what) rest)
     (kept-after section (past + durationOf (item .what)) items here))
 
 -- what is before a section's start is not within it
@@ -52,8 +55,7 @@ kept-since section past (item ∷ items) =
     (λ t.
     let late = ltb-false (past + durationOf (item .what)) (section .from) t in
     simp (le-ltb, le-leb)
-    (ap
-    (λ (rest : List (At (Item Event))). if isBelow (past + durationOf (item .what)) (section .to) then record { step = past + durationOf (item .what); event = item .what } ∷ rest else rest)
+    (ap (λ (rest : List (At (Item Event))). kept-first (section .to) (past + durationOf (item .what)) (item .what) rest)
     (kept-after section (past + durationOf (item .what)) items late)))
 
 -- past a bound nothing is kept

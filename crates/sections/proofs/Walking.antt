@@ -20,7 +20,7 @@ use Rattle.model.proofs.Tests.{by-test}
 use Rattle.items.proofs.Addresses.{isThere, timeIn, placed-at, stands-ahead, passed-by, timed-by, reads-to-items}
 use Rattle.items.proofs.Standing.{body-stands}
 use Rattle.sections.specs.Spans.{Items, onsets, messagesAfter, Rest, since, placeOf}
-use Rattle.sections.specs.Reaching.{messagesTo, itemsTo, reachedOf, passedBy}
+use Rattle.sections.specs.Reaching.{messagesTo, itemsTo, reachedOf, atHead, passedBy}
 use Rattle.sections.proofs.Places.{Standing, place-stands}
 use Rattle.sections.proofs.Stretches.{none-kept}
 
@@ -61,7 +61,7 @@ module _ (voice : Voice) (s : List ℕ) where
   all = itemsOf voice s
 
   pub walking-starts : isFine (bodyOf voice s) ≡ true
-      → Walking voice s (record { at = 0; time = 0; messages = 0; first = 0; past = 0; passed = 0 }) all
+      → Walking voice s atHead all
   unfolding isAddress timeOf
   walking-starts fine =
       let st = body-stands voice s all (reads-to-items voice s fine) in
@@ -120,7 +120,10 @@ module _ (voice : Voice) (s : List ℕ) where
         let u = w .heards address (omega (arith, ahead)) in
         let v = says (r .time + duration) (messagesAfter (r .time + duration) (itemsTo address rest)) in
         add-assoc (r .messages) heard _
-        ∙ ap (λ (n : ℕ). r .messages + n) (sym v ∙ ap (λ (d : ℕ). length (withMessage isMessage (r .time + d) (item .what) (messagesAfter (r .time + d) (itemsTo address rest)))) (sym takes) ∙ ap (λ (l : Items). length (messagesAfter (r .time) l)) (sym first))
+        ∙ ap (λ (n : ℕ). r .messages + n)
+        (sym v
+        ∙ ap (λ (d : ℕ). length (withMessage isMessage (r .time + d) (item .what) (messagesAfter (r .time + d) (itemsTo address rest)))) (sym takes)
+        ∙ ap (λ (l : Items). length (messagesAfter (r .time) l)) (sym first))
         ∙ u
 
     sinces-next : (time : ℕ) → r .time + duration < time → since time 0 all ≡ since time (r .time + duration) rest
@@ -180,4 +183,6 @@ module _ (voice : Voice) (s : List ℕ) where
         (λ t.
         let long = eqb-false duration 0 t in
         let l = since-here long in
-        simp t (moved (r .time + duration) (r .at) (r .time) (r .messages) refl (ap (λ (x : Rest). placeOf (length s) (x .items)) l ∙ here) (ap (λ (x : Rest). x .past) l) (early-here long)))
+        simp t
+        (moved (r .time + duration) (r .at) (r .time) (r .messages) refl
+        (ap (λ (x : Rest). placeOf (length s) (x .items)) l ∙ here) (ap (λ (x : Rest). x .past) l) (early-here long)))

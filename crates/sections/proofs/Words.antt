@@ -75,4 +75,6 @@ module _ (event : Event) where
 
 pub ruleset messages = (nop-message, note-message, wave-message, control-message, exclusive-message)
 
-pub ruleset words = (nop-word, note-word, wave-word, control-word, exclusive-word, note-channel, note-gate, wave-channel, wave-gate, control-kind, control-channel, exclusive-place)
+pub ruleset words = (nop-word, note-word, wave-word, control-word, exclusive-word)
+
+pub ruleset bounds = (note-channel, note-gate, wave-channel, wave-gate, control-kind, control-channel, exclusive-place)

@@ -20,6 +20,7 @@ messagesTo time past items = length (messagesOf isMessage (keep (λ at. at .step
 abbrev pub itemsTo : ℕ → Items → Items
 itemsTo address items = keep (λ item. item .place <? address) items
 
+-- up to an address
 unfoldable pub reachedOf : Items → ℕ → ℕ → Reached
 reachedOf items size address =
     record {
@@ -30,6 +31,10 @@ reachedOf items size address =
       past = since (timeOf items address) 0 items .past;
       passed = messagesTo (timeOf items address) 0 items;
     }
+
+-- nothing is walked yet
+abbrev pub atHead : Reached
+atHead = record { at = 0; time = 0; messages = 0; first = 0; past = 0; passed = 0 }
 
 -- the span from what is reached on, up to so many messages and a time
 unfoldable pub spanTo : Reached → ℕ → ℕ → Span
@@ -66,7 +71,7 @@ passedBy reached duration heard next =
       passed = reached .messages;
     }
 
--- what is reached, at an address, and a time that can be counted on
+-- What a walk goes on from: it has reached an address, and its time leaves room to count on.
 pub record Walked (items : Items) (size : ℕ) (reached : Reached) : Type 0 where
   pub is : reached ≡ reachedOf items size (reached .at)
   pub address : isAddress items size (reached .at) ≡ true

@@ -1,12 +1,16 @@
 -- A section as a stretch of a body: onsets never fall, so what is not before a section is all that stands from some item on, and what it
 -- plays is the first so many messages of that.
-use Prim.Native.Nat.{ℕ, _+_, _-_}
+use Prim.Native.Nat.{ℕ, _+_, _-_, _*_, _≤_}
 use mathlib.Core.List.{List, [], _∷_, map}
+use mathlib.Core.Option.{none}
 use mathlib.Core.Path.{_≡_}
 use lib.ListN.{length, take}
 use Rattle.model.specs.Words.{if_then_else_, _<?_, _≤?_, keep, Placed}
+use Rattle.model.specs.Duration.{longestDuration}
 use Rattle.model.specs.Item.{Item, durationOf}
 use Rattle.model.specs.Play.{At, onsetsAfter, messagesOf, Section, isWithin}
+use Rattle.model.specs.Points.{timeOf}
+use Rattle.model.specs.Order.{between, streamSection}
 use Rattle.model.specs.Word.{isMessage, wordOf}
 use Rattle.model.specs.declared.Event.{Event}
 use Rattle.model.specs.declared.Span.{Span}
@@ -43,6 +47,7 @@ unfoldable pub placeOf : ℕ → Items → ℕ
 placeOf size [] = size
 placeOf size (item ∷ items) = item .place
 
+-- a section as it is walked
 unfoldable pub spanOf : Items → ℕ → Section → Span
 spanOf items size section =
     record {
@@ -52,6 +57,13 @@ spanOf items size section =
       messages = length (messagesWithin section items);
       lasts = section .lasts;
     }
+
+-- the sections of a track, as spans: between two addresses, and from an address on with no bound
+abbrev pub spanBetween : Items → ℕ → ℕ → ℕ → Span
+spanBetween items size start stop = spanOf items size (between (timeOf items start) (timeOf items stop))
+
+abbrev pub spanFrom : Items → ℕ → ℕ → Span
+spanFrom items size start = spanOf items size (streamSection items start none)
 
 -- the items that stand from a place on
 unfoldable pub itemsFrom : ℕ → Items → Items
@@ -72,6 +84,11 @@ stepsOf rows = map (λ row. row .step) rows
 
 unfoldable pub wordsOf : List (At Event) → List ℕ
 wordsOf rows = map (λ row. wordOf (row .event)) rows
+
+-- What a span of a body of a size can come to: each message takes a byte, and each byte at most the longest duration.
+pub record Small (size : ℕ) (span : Span) : Type 0 where
+  pub few : span .messages ≤ size
+  pub short : span .lasts ≤ longestDuration * size
 
 -- A span that some section of a body gives.
 pub record Playable (items : Items) (size : ℕ) (span : Span) : Type 0 where

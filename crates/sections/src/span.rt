@@ -1,24 +1,20 @@
 // Sections as stretches of a body: between two addresses, and from an address to the body's end.
 ghost use mathlib.Core.Path.{_≡_};
 ghost use mathlib.Core.Bool.{true};
-ghost use mathlib.Core.Option.{none};
 ghost use Prim.Native.Nat.{_≤_};
 ghost use lib.ListN.{length};
 ghost use Rattle.model.specs.Item.{bodyOf, isFine, itemsOf};
-ghost use Rattle.model.specs.Points.{isAddress, timeOf};
-ghost use Rattle.model.specs.Order.{between, streamSection};
-ghost use Rattle.sections.specs.Spans.{spanOf};
-ghost use Rattle.sections.specs.Reaching.{spanTo, Walked};
+ghost use Rattle.model.specs.Points.{isAddress};
+ghost use Rattle.sections.specs.Spans.{spanBetween, spanFrom, Small};
+ghost use Rattle.sections.specs.Reaching.{atHead, spanTo};
 use super::walk::walk_to;
 use model::Reached;
 use model::Span;
 use model::Voice;
 
-// A body of which nothing is walked yet.
-fn at_head(voice: Voice, body: &[u8]) -> Reached
-    requires { ⌜ isFine (bodyOf voice (now body)) ≡ true ⌝ }
-    ensures { λ r. ⌜ Walked (itemsOf voice (now (body .entry))) (length (now (body .entry))) r ⌝ }
-    ensures { λ r. ⌜ r .at ≡ 0 ⌝ }
+// Where a walk begins.
+fn at_head() -> Reached
+    ensures { λ r. ⌜ r ≡ atHead ⌝ }
 {
     Reached {
         at: 0,
@@ -30,6 +26,7 @@ fn at_head(voice: Voice, body: &[u8]) -> Reached
     }
 }
 
+// From what is reached on, up to so many messages and a time.
 fn span_to(reached: Reached, messages: usize, time: u64) -> Span
     requires { ⌜ reached .passed ≤ messages ⌝ }
     requires { ⌜ reached .time ≤ time ⌝ }
@@ -44,15 +41,17 @@ fn span_to(reached: Reached, messages: usize, time: u64) -> Span
     }
 }
 
+// Between two addresses. The body is walked once, up to the second.
 pub fn span_between(voice: Voice, body: &[u8], start: usize, stop: usize) -> Span
     requires { ⌜ length (now body) ≤ 65536 ⌝ }
     requires { ⌜ isFine (bodyOf voice (now body)) ≡ true ⌝ }
     requires { ⌜ isAddress (itemsOf voice (now body)) (length (now body)) start ≡ true ⌝ }
     requires { ⌜ isAddress (itemsOf voice (now body)) (length (now body)) stop ≡ true ⌝ }
     requires { ⌜ start ≤ stop ⌝ }
-    ensures { λ r. ⌜ r ≡ spanOf (itemsOf voice (now (body .entry))) (length (now (body .entry))) (between (timeOf (itemsOf voice (now (body .entry))) start) (timeOf (itemsOf voice (now (body .entry))) stop)) ⌝ }
+    ensures { λ r. ⌜ r ≡ spanBetween (itemsOf voice (now (body .entry))) (length (now (body .entry))) start stop ⌝ }
+    ensures { λ r. ⌜ Small (length (now (body .entry))) r ⌝ }
 {
-    let from = walk_to(voice, body, at_head(voice, body), start);
+    let from = walk_to(voice, body, at_head(), start);
     let to = walk_to(voice, body, from, stop);
     span_to(from, to.passed, to.time)
 }
@@ -62,9 +61,10 @@ pub fn span_from(voice: Voice, body: &[u8], start: usize) -> Span
     requires { ⌜ length (now body) ≤ 65536 ⌝ }
     requires { ⌜ isFine (bodyOf voice (now body)) ≡ true ⌝ }
     requires { ⌜ isAddress (itemsOf voice (now body)) (length (now body)) start ≡ true ⌝ }
-    ensures { λ r. ⌜ r ≡ spanOf (itemsOf voice (now (body .entry))) (length (now (body .entry))) (streamSection (itemsOf voice (now (body .entry))) start none) ⌝ }
+    ensures { λ r. ⌜ r ≡ spanFrom (itemsOf voice (now (body .entry))) (length (now (body .entry))) start ⌝ }
+    ensures { λ r. ⌜ Small (length (now (body .entry))) r ⌝ }
 {
-    let from = walk_to(voice, body, at_head(voice, body), start);
+    let from = walk_to(voice, body, at_head(), start);
     let to = walk_to(voice, body, from, body.len());
     span_to(from, to.messages, to.time)
 }

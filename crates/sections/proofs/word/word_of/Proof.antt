@@ -1,5 +1,5 @@
 -- `sections::word::word_of` meets its contract.
-use Rattle.sections.proofs.Words.{words}
+use Rattle.sections.proofs.Words.{words, bounds}
 use borrow.Author.Needs.{needs}
 use Rattle.sections.proofs.word.word_of.Statement.{statement}
 use Rattle.sections.proofs.word.word_of.Tie as tie
@@ -11,25 +11,25 @@ enum-known-event : tie.Need-enum-known-event
 enum-known-event c = search needs
 
 pack-requires : tie.Need-pack-requires
-pack-requires c κs = search (needs, words)
+pack-requires c κs = search (needs, bounds)
 
 enum-known-event-2 : tie.Need-enum-known-event-2
 enum-known-event-2 c = search needs
 
 pack-requires-2 : tie.Need-pack-requires-2
-pack-requires-2 c κs = search (needs, words)
+pack-requires-2 c κs = search (needs, bounds)
 
 enum-known-event-3 : tie.Need-enum-known-event-3
 enum-known-event-3 c = search needs
 
 pack-requires-3 : tie.Need-pack-requires-3
-pack-requires-3 c κs = search (needs, words)
+pack-requires-3 c κs = search (needs, bounds)
 
 enum-known-event-4 : tie.Need-enum-known-event-4
 enum-known-event-4 c = search needs
 
 pack-exclusive-requires : tie.Need-pack-exclusive-requires
-pack-exclusive-requires c κs = search (needs, words)
+pack-exclusive-requires c κs = search (needs, bounds)
 
 returns : tie.Need-returns
 returns c = search (needs, words)

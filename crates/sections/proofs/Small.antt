@@ -1,0 +1,74 @@
+-- What a span comes to: it plays at most as many messages as the body has bytes, and lasts at most as long as all of its items.
+use Prim.Native.Nat.{ℕ, _+_, _-_, _*_, _<_, _≤_}
+use mathlib.Core.Bool.{Bool, true}
+use mathlib.Core.List.{List, [], _∷_}
+use mathlib.Core.Option.{none}
+use mathlib.Core.Path.{_≡_, sym, subst}
+use lib.ListN.{length}
+use native.Mathlib.Omega.{arith}
+use Rattle.model.specs.Words.{if_then_else_, _<?_, keep, sum, Placed}
+use Rattle.model.specs.Bytes.{_!_}
+use Rattle.model.specs.Item.{Item, durationOf, lasting, bodyOf, isFine, itemsOf}
+use Rattle.model.specs.Play.{At, onsetsAfter, messagesOf, Section, isWithin}
+use Rattle.model.specs.Points.{timeOf}
+use Rattle.model.specs.Word.{isMessage}
+use Rattle.model.specs.Order.{between, streamSection}
+use Rattle.model.specs.declared.Voice.{Voice}
+use Rattle.model.specs.declared.Event.{Event}
+use Rattle.model.specs.declared.Span.{Span}
+use Rattle.model.proofs.Tests.{by-test}
+use Rattle.items.proofs.Addresses.{stands-ahead, reads-to-items}
+use Rattle.items.proofs.Standing.{body-stands}
+use Rattle.sections.specs.Spans.{Items, onsets, spanOf, spanBetween, spanFrom, Small}
+use Rattle.sections.proofs.Places.{Standing, item-short}
+use Rattle.sections.proofs.Nearing.{heard-one, says}
+
+kept-lasting : (test : Placed (Item Event) → Bool) (items : Items) → lasting (keep test items) ≤ lasting items
+unfolding keep lasting sum if_then_else_
+kept-lasting test [] = omega arith
+kept-lasting test (item ∷ items) =
+    let rest = kept-lasting test items in
+    by-test (test item) (λ t. simp t (omega arith)) (λ t. simp t (omega arith))
+
+module _ (voice : Voice) (s : List ℕ) where
+  messages-few : (test : At (Item Event) → Bool) (past at : ℕ) (items : Items) → Standing voice s at items
+      → at + length (messagesOf isMessage (keep test (onsets past items))) ≤ length s
+  unfolding keep onsetsAfter messagesOf if_then_else_
+  messages-few test past at [] st = omega arith
+  messages-few test past at (item ∷ items) st =
+      let onset = past + durationOf (item .what) in
+      let a = stands-ahead voice s at item (st .0) (st .1) in
+      let rest = messages-few test onset (st .0) items (st .2) in
+      let one = heard-one (item .what) in
+      let l = messagesOf isMessage (keep test (onsets onset items)) in
+      let told = says (item .what) onset l in
+      by-test (test (record { step = onset; event = item .what })) (λ t. simp t (omega arith)) (λ t. simp t (omega arith))
+
+  module _ (bytes : (k : ℕ) → s ! k < 256) (small : length s ≤ 65536) where
+    lasting-short : (at : ℕ) (items : Items) → Standing voice s at items → lasting items + 16511 * at ≤ 16511 * length s
+    unfolding lasting sum
+    lasting-short at [] st = omega arith
+    lasting-short at (item ∷ items) st =
+        let a = stands-ahead voice s at item (st .0) (st .1) in
+        let d = item-short voice s bytes small at item (st .0) (st .1) in
+        let rest = lasting-short (st .0) items (st .2) in
+        omega arith
+
+    module _ (fine : isFine (bodyOf voice s) ≡ true) (r : Span) where
+      section-small : (section : Section) → r ≡ spanOf (itemsOf voice s) (length s) section → section .lasts ≤ lasting (itemsOf voice s) → Small (length s) r
+      unfolding spanOf
+      section-small section e h =
+          let st = body-stands voice s (itemsOf voice s) (reads-to-items voice s fine) in
+          let few = messages-few (λ at. isWithin section (at .step)) 0 0 (itemsOf voice s) st in
+          let all = lasting-short 0 (itemsOf voice s) st in
+          subst (Small (length s)) (sym e) (record { few = omega arith; short = omega arith })
+
+      pub between-small : (start stop : ℕ) → r ≡ spanBetween (itemsOf voice s) (length s) start stop → Small (length s) r
+      unfolding between timeOf
+      between-small start stop e =
+          let whole = kept-lasting (λ item. item .place <? stop) (itemsOf voice s) in
+          section-small (between (timeOf (itemsOf voice s) start) (timeOf (itemsOf voice s) stop)) e (omega arith)
+
+      pub stream-small : (start : ℕ) → r ≡ spanFrom (itemsOf voice s) (length s) start → Small (length s) r
+      unfolding streamSection
+      stream-small start e = section-small (streamSection (itemsOf voice s) start none) e (omega arith)
