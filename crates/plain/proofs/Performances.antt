@@ -1,20 +1,15 @@
--- Paper, "Playing": what a readable track plays. Its steps never fall and end where the tune ends, section after section; and all that it
--- plays are messages of the track's body, so that they can be written.
+-- Paper, "Playing": all that a readable track plays are messages of its body, so that its tune can be written.
 use Prim.Native.Nat.{ℕ, _+_}
-use mathlib.Core.Bool.{Bool, true, false}
+use mathlib.Core.Bool.{true}
 use mathlib.Core.List.{List, [], _∷_, _++_, map}
-use mathlib.Core.Option.{Option, none, some}
-use mathlib.Core.Path.{_≡_, _∙_, subst}
-use native.Mathlib.Nat.{zero-add}
-use native.Mathlib.Omega.{arith}
-use Rattle.model.specs.Words.{if_then_else_, _≤?_, keep, sum, _otherwise_, Placed}
+use mathlib.Core.Option.{some}
+use mathlib.Core.Path.{_≡_, _∙_}
+use Rattle.model.specs.Words.{if_then_else_, _≤?_, keep}
 use Rattle.model.specs.Item.{Item, Item.timed, Item.endMark, durationOf}
-use Rattle.model.specs.Seek.{Entry, Addresses, startPoint, stopPoint, phraseOf, orderList}
 use Rattle.model.specs.Play.{At, onsetsAfter, withMessage, messagesOf, Section, isWithin, sounding, playedFrom, tuneOf, retold}
-use Rattle.model.specs.Points.{timeOf}
 use Rattle.model.specs.Track.{Track}
 use Rattle.model.specs.Word.{isMessage}
-use Rattle.model.specs.Order.{between, streamSection, phraseSection, lettersPlayed, phraseOrder, orderOf, playOrder, tuneIn}
+use Rattle.model.specs.Order.{playOrder, tuneIn}
 use Rattle.model.specs.Content.{contentOf, contentIn, contentsIn, isSaid}
 use Rattle.model.specs.Writing.{contentFits, itemFits}
 use Rattle.model.specs.declared.Voice.{Voice}
@@ -23,78 +18,13 @@ use Rattle.model.proofs.Tests.{by-test, if-all, and-right}
 use Rattle.inverse.proofs.Sequence.{AllFit}
 use Rattle.inverse.proofs.ReadWrites.{body-fits}
 use Rattle.sections.specs.Spans.{Items, onsets, messagesWithin, counted}
-use Rattle.sections.proofs.Steps.{Rising, rising-from, between-rises, stream-rises}
+use Rattle.sections.proofs.Steps.{Rising}
+use Rattle.sections.proofs.Tunes.{tune-rises}
 use Rattle.plain.proofs.PlainPlays.{Rises, AllSaid}
 use Rattle.plain.proofs.PlainItems.{Writable}
 use Rattle.plain.proofs.Streams.{said-so, told}
 use Rattle.plain.proofs.PlainReads.{WritableTune}
 use Rattle.plain.proofs.NamedTracks.{Readable}
-
--- THE STEPS
-
-rising-append : (low middle high : ℕ) (front back : List (At Event)) → Rising low middle front → Rising middle high back → Rising low high (front ++ back)
-rising-append low middle high [] back r q = rising-from middle low high back r q
-rising-append low middle high (at ∷ front) back r q = (r .0, rising-append (at .step) middle high front back (r .1) q)
-
--- what sections last together
-abbrev together : List Section → ℕ
-together sections = sum (map (λ section. section .lasts) sections)
-
-module _ (items : Items) where
-  -- a section whose steps rise to its end, wherever it is played
-  abbrev Steady : Section → Type 0
-  Steady section = (before : ℕ) → Rising before (before + section .lasts) (sounding isMessage (onsets 0 items) before section)
-
-  abbrev AllSteady : List Section → Type 0
-  AllSteady [] = Unit
-  AllSteady (section ∷ sections) = Steady section × AllSteady sections
-
-  between-steady : (from to : ℕ) → Steady (between from to)
-  unfolding between
-  between-steady from to before = between-rises before from to items
-
-  stream-steady : (start : ℕ) (stop : Option ℕ) → Steady (streamSection items start stop)
-  unfolding streamSection
-  stream-steady start none before = stream-rises before start items
-  stream-steady start (some stop) before = between-steady (timeOf items start) (timeOf items stop) before
-
-  phrase-steady : (phrase : Option Addresses) → Steady (phraseSection items phrase)
-  unfolding phraseSection
-  phrase-steady none = between-steady 0 0
-  phrase-steady (some addresses) = between-steady (timeOf items (addresses .from)) (timeOf items (addresses .to))
-
-  phrases-steady : (entries : List (Placed Entry)) (letters : List ℕ) → AllSteady (map (λ letter. phraseSection items (phraseOf letter entries)) letters)
-  phrases-steady entries [] = tt
-  phrases-steady entries (letter ∷ letters) = (phrase-steady (phraseOf letter entries), phrases-steady entries letters)
-
-  letters-steady : (entries : List (Placed Entry)) (letters : Option (List ℕ)) (sections : List Section) → phraseOrder items entries letters ≡ some sections
-      → AllSteady sections
-  unfolding phraseOrder
-  letters-steady entries none sections e = let z : _≡_ {A = ℕ} 0 1 = cc in absurd (omega arith)
-  letters-steady entries (some letters) sections e =
-      let same : map (λ letter. phraseSection items (phraseOf letter entries)) (lettersPlayed entries letters) ≡ sections = cc in
-      subst AllSteady same (phrases-steady entries (lettersPlayed entries letters))
-
-  order-steady : (phrases : Bool) (entries : List (Placed Entry)) (sections : List Section) → orderOf phrases items entries ≡ some sections → AllSteady sections
-  unfolding orderOf
-  order-steady true entries sections e = letters-steady entries (orderList entries) sections e
-  order-steady false entries sections e =
-      let same : streamSection items (startPoint entries otherwise 0) (stopPoint entries) ∷ [] ≡ sections = cc in
-      subst AllSteady same (stream-steady (startPoint entries otherwise 0) (stopPoint entries), tt)
-
-  abbrev played : ℕ → List Section → List (At Event)
-  played before sections = playedFrom isMessage (onsets 0 items) before sections
-
-  played-rises : (before : ℕ) (sections : List Section) → AllSteady sections → Rising before (before + together sections) (played before sections)
-  unfolding playedFrom sum
-  played-rises before [] steady = omega arith
-  played-rises before (section ∷ sections) steady =
-      let next = before + section .lasts in
-      let end : next + together sections ≡ before + together (section ∷ sections) = omega arith in
-      rising-append before next (before + together (section ∷ sections)) (sounding isMessage (onsets 0 items) before section) (played next sections)
-      (steady .0 before) (subst (λ (n : ℕ). Rising next n (played next sections)) end (played-rises next sections (steady .1)))
-
--- THE MESSAGES
 
 module _ (voice : Voice) (body : List ℕ) where
   -- messages that can be written
@@ -152,15 +82,13 @@ module _ (voice : Voice) (body : List ℕ) where
 -- THE TUNE of a readable track in its play order can be written.
 pub tune-writable : (track : Track) (sections : List Section) → Readable track → playOrder track ≡ some sections
     → WritableTune (track .voice) (retold (contentOf (track .body)) (tuneIn track sections))
-unfolding playOrder tuneIn tuneOf retold
+unfolding tuneIn tuneOf retold
 tune-writable track sections readable e =
     let fit = body-fits (track .voice) (track .body) (readable .bytes) (track .items) (readable .reads) in
     let sound = played-sound (track .voice) (track .body) (track .items) fit 0 sections in
-    let steady = order-steady (track .items) (track .phrases) (track .entries) sections e in
-    let all = played (track .items) 0 sections in
-    let rises = subst (λ (end : ℕ). Rising 0 end all) (zero-add (together sections)) (played-rises (track .items) 0 sections steady) in
+    let tune = tuneIn track sections in
     record {
-      rises = told-rises (track .voice) (track .body) 0 (together sections) all rises;
-      said = told-said (track .voice) (track .body) all sound;
-      writable = told-writable (track .voice) (track .body) all sound;
+      rises = told-rises (track .voice) (track .body) 0 (tune .end) (tune .messages) (tune-rises track sections e);
+      said = told-said (track .voice) (track .body) (tune .messages) sound;
+      writable = told-writable (track .voice) (track .body) (tune .messages) sound;
     }
