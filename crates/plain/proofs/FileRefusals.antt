@@ -1,0 +1,276 @@
+-- The table of refusals: a file is refused with a number from 1 to 14 and no other, so that the numbers of the operations that go on from
+-- there (16, 17, 18) say by themselves what is wrong.
+use Prim.Native.Nat.{ℕ, zero, suc, _+_, _≤_}
+use mathlib.Core.Bool.{Bool, true, false}
+use mathlib.Core.List.{List, [], _∷_}
+use mathlib.Core.Option.{Option, none, some}
+use mathlib.Core.Path.{_≡_, subst}
+use lib.ListN.{length, take}
+use native.Mathlib.Omega.{arith}
+use Rattle.model.specs.Words.{if_then_else_, Checked, Checked.fine, Checked.refused, _>>=_, _>>_, passed, countedFrom, each, allPass, Walk, Walk.over, Walk.broken, Walk._then_, Step, Step.met, Step.stuck, onward, walkFrom, walkTo, inTurn, Placed}
+use Rattle.model.specs.Item.{Item, withEvent, withDuration, itemAt, itemMet, itemStep, notAfterEndMark, bodyOf, messageMet, setupStep, setupMessageAt, setupOf}
+use Rattle.model.specs.Event.{eventAt}
+use Rattle.model.specs.Duration.{durationAt}
+use Rattle.model.specs.Chunk.{Chunk, readChunk, chunkMet, chunkStep, allowedOnce, chunkList}
+use Rattle.model.specs.Seek.{Entry, Entry.start, Entry.stop, Entry.phrase, Entry.order, entryAt, followed, entryMet, entryStep, inOrder, seekOf}
+use Rattle.model.specs.Points.{pointsHold, lettersNamed, lettersHold, orderHolds}
+use Rattle.model.specs.Track.{scoreVoice, pcmVoice, voiceOf, fixedHolds, required, setupHolds, pointsOf, seekIn, entriesOf, trackOf}
+use Rattle.model.specs.File.{frameOf, opened, topOf, contentsOf, fileOf}
+use Rattle.model.specs.declared.Voice.{Voice}
+use Rattle.model.specs.declared.Event.{Event}
+use Rattle.model.specs.declared.ReadDuration.{ReadDuration}
+use Rattle.model.specs.declared.ReadDuration.the-variants as duration
+use Rattle.model.specs.declared.ReadEvent.{ReadEvent}
+use Rattle.model.specs.declared.ReadEvent.the-variants as event
+use Rattle.model.specs.declared.ReadItem.{ReadItem}
+use Rattle.model.specs.declared.ReadItem.the-variants as item
+use Rattle.model.specs.declared.ReadChunk.{ReadChunk}
+use Rattle.model.specs.declared.ReadChunk.the-variants as chunk
+use Rattle.model.specs.declared.ReadEntry.{ReadEntry}
+use Rattle.model.specs.declared.ReadEntry.the-variants as entry
+use Rattle.model.proofs.Tests.{if-all}
+
+-- refused, if at all, with a number of reading
+abbrev Read : ℕ → Type 0
+Read number = (1 ≤ number) × (number ≤ 14)
+
+abbrev Low : {A : Type 0} → Checked A → Type 0
+Low (fine a) = Unit
+Low (refused number place) = Read number
+
+abbrev LowStep : {A : Type 0} → Step A → Type 0
+LowStep (met a next) = Unit
+LowStep (stuck number place) = Read number
+
+abbrev LowWalk : {A : Type 0} → Walk A → Type 0
+LowWalk over = Unit
+LowWalk (broken number place) = Read number
+LowWalk (a then rest) = LowWalk rest
+
+-- ONE CHECK AFTER THE OTHER
+
+low-bind : {A B : Type 0} (c : Checked A) (rest : A → Checked B) → Low c → ((a : A) → Low (rest a)) → Low (c >>= rest)
+unfolding _>>=_
+low-bind (fine a) rest l m = m a
+low-bind (refused number place) rest l m = l
+
+low-then : {A B : Type 0} (c : Checked A) (rest : Checked B) → Low c → Low rest → Low (c >> rest)
+unfolding _>>_
+low-then (fine a) rest l m = m
+low-then (refused number place) rest l m = l
+
+low-counted : {A : Type 0} (base : ℕ) (c : Checked A) → Low c → Low (countedFrom base c)
+unfolding countedFrom
+low-counted base (fine a) l = tt
+low-counted base (refused number place) l = l
+
+low-test : {A : Type 0} (b : Bool) (number place : ℕ) (rest : Checked A) → Read number → Low rest → Low (if b then refused number place else rest)
+low-test b number place rest r l = if-all Low b (refused number place) rest (λ h. r) (λ h. l)
+
+module _ {A : Type 0} where
+  low-each : {B : Type 0} (check : A → Checked B) (list : List A) → ((a : A) → Low (check a)) → Low (each check list)
+  unfolding each
+  low-each check [] l = tt
+  low-each check (a ∷ list) l =
+      low-bind (check a) _ (l a) (λ b. low-bind (each check list) _ (low-each check list l) (λ found. tt))
+
+  low-all : (check : A → Checked (Unit {0})) (list : List A) → ((a : A) → Low (check a)) → Low (allPass check list)
+  unfolding allPass
+  low-all check [] l = tt
+  low-all check (a ∷ list) l = low-then (check a) (allPass check list) (l a) (low-all check list l)
+
+  low-onward : (step : Step A) (go : ℕ → Walk A) → LowStep step → ((n : ℕ) → LowWalk (go n)) → LowWalk (onward step go)
+  unfolding onward
+  low-onward (met a next) go l m = m next
+  low-onward (stuck number place) go l m = l
+
+  low-walk : (number end : ℕ) (step : ℕ → Step A) (turns at : ℕ) → Read number → ((n : ℕ) → LowStep (step n)) → LowWalk (walkFrom number end step turns at)
+  unfolding walkFrom
+  low-walk number end step zero at r l = r
+  low-walk number end step (suc turns) at r l =
+      if-all LowWalk _ _ _ (λ h. tt) (λ h. low-onward (step at) _ (l at) (λ n. low-walk number end step turns n r l))
+
+  low-turns : (check : List A → A → Checked (Unit {0})) (before : List A) (walk : Walk A) → LowWalk walk → ((l : List A) (a : A) → Low (check l a))
+      → Low (inTurn check before walk)
+  unfolding inTurn
+  low-turns check before over w l = tt
+  low-turns check before (broken number place) w l = w
+  low-turns check before (a then rest) w l =
+      low-then (check before a) _ (l before a) (low-bind (inTurn check (a ∷ before) rest) _ (low-turns check (a ∷ before) rest w l) (λ found. tt))
+
+  low-list : (number end from : ℕ) (step : ℕ → Step A) (check : List A → A → Checked (Unit {0})) → Read number → ((n : ℕ) → LowStep (step n))
+      → ((l : List A) (a : A) → Low (check l a)) → Low (inTurn check [] (walkTo number end step from))
+  unfolding walkTo
+  low-list number end from step check r s l = low-turns check [] _ (low-walk number end step (suc end) from r s) l
+
+-- 11: BODIES
+
+abbrev LowItem : ReadItem → Type 0
+LowItem (item.Timed value what next) = Unit
+LowItem (item.EndMark next) = Unit
+LowItem (item.Refused number place) = Read number
+
+event-low : (at value : ℕ) (r : ReadEvent) → LowItem (withEvent at value r)
+unfolding withEvent
+event-low at value (event.Is what next) = tt
+event-low at value event.Refused = omega arith
+
+duration-low : (voice : Voice) (s : List ℕ) (at : ℕ) (r : ReadDuration) → LowItem (withDuration voice s at r)
+unfolding withDuration
+duration-low voice s at (duration.Is value next) = event-low at value (eventAt voice s next)
+duration-low voice s at duration.Refused = omega arith
+
+met-low : (at : ℕ) (r : ReadItem) → LowItem r → LowStep (itemMet at r)
+unfolding itemMet
+met-low at (item.Timed value what next) l = tt
+met-low at (item.EndMark next) l = tt
+met-low at (item.Refused number place) l = l
+
+item-low : (voice : Voice) (s : List ℕ) (at : ℕ) → LowStep (itemStep voice s at)
+unfolding itemStep itemAt
+item-low voice s at = met-low at (itemAt voice s at) (if-all LowItem _ _ _ (λ h. tt) (λ h. duration-low voice s at (durationAt s at)))
+
+body-low : (voice : Voice) (s : List ℕ) → Low (bodyOf voice s)
+unfolding bodyOf notAfterEndMark
+body-low voice s =
+    low-test _ 11 0 _ (omega arith)
+    (low-list 11 (length s) 0 (itemStep voice s) notAfterEndMark (omega arith) (item-low voice s) (λ before one. low-test _ 11 _ passed (omega arith) tt))
+
+-- 10: SETUPS
+
+message-low : (at : ℕ) (r : ReadEvent) → LowStep (messageMet at r)
+unfolding messageMet
+message-low at (event.Is what next) = tt
+message-low at event.Refused = omega arith
+
+setup-low : (s : List ℕ) → Low (setupOf s)
+unfolding setupOf setupStep
+setup-low s =
+    low-test _ 10 0 _ (omega arith)
+    (low-list 10 (length s) 0 (setupStep s) _ (omega arith) (λ at. message-low at (setupMessageAt s at)) (λ before one. tt))
+
+-- 4, 9, 6: CHUNK LISTS
+
+chunk-low : (at : ℕ) (r : ReadChunk) → LowStep (chunkMet at r)
+unfolding chunkMet
+chunk-low at (chunk.Is id size next) = tt
+chunk-low at chunk.Cut = omega arith
+
+list-low : (allowed : ℕ → Bool) (s : List ℕ) (from end : ℕ) → Low (chunkList allowed s from end)
+unfolding chunkList chunkStep allowedOnce
+list-low allowed s from end =
+    low-list 4 end from (chunkStep s end) (allowedOnce allowed) (omega arith) (λ at. chunk-low at (readChunk s end at))
+    (λ before one. low-test _ 9 _ _ (omega arith) (low-test _ 6 _ passed (omega arith) tt))
+
+-- 12, 13, 14: SEEK BODIES
+
+followed-low : (s : List ℕ) (at next : ℕ) (one : Entry) → LowStep (followed s at next one)
+unfolding followed
+followed-low s at next one = if-all LowStep _ _ _ (λ h. tt) (λ h. if-all LowStep _ _ _ (λ k. tt) (λ k. omega arith))
+
+entry-low : (s : List ℕ) (at : ℕ) (r : ReadEntry) → LowStep (entryMet s at r)
+unfolding entryMet
+entry-low s at (entry.Start value next) = followed-low s at next _
+entry-low s at (entry.Stop value next) = followed-low s at next _
+entry-low s at (entry.Phrase letter from to next) = followed-low s at next _
+entry-low s at (entry.Order letters next) = followed-low s at next _
+entry-low s at entry.Refused = omega arith
+
+form-low : (width : ℕ) (s : List ℕ) → Low (seekOf width s)
+unfolding seekOf entryStep inOrder
+form-low width s =
+    low-test _ 12 0 _ (omega arith)
+    (low-list 12 (length s) 0 (entryStep width s) inOrder (omega arith) (λ at. entry-low s at (entryAt width s at))
+    (λ before one. low-test _ 12 _ _ (omega arith) (low-test _ 12 _ passed (omega arith) tt)))
+
+holds-low : (address point : ℕ → Bool) (entries : List (Placed Entry)) → Low (pointsHold address point entries)
+unfolding pointsHold
+holds-low address point entries = low-all _ entries (λ one. if-all Low _ _ _ (λ h. tt) (λ h. omega arith))
+
+named-low : (entries : List (Placed Entry)) (at : ℕ) (letters : List ℕ) → Low (lettersNamed entries at letters)
+unfolding lettersNamed
+named-low entries at [] = tt
+named-low entries at (letter ∷ letters) = if-all Low _ _ _ (λ h. named-low entries (at + 1) letters) (λ h. omega arith)
+
+letters-low : (entries : List (Placed Entry)) (at : ℕ) (one : Entry) → Low (lettersHold entries at one)
+unfolding lettersHold
+letters-low entries at (start value) = tt
+letters-low entries at (stop value) = tt
+letters-low entries at (phrase letter from to) = tt
+letters-low entries at (order letters) = named-low entries (at + 3) letters
+
+order-low : (entries : List (Placed Entry)) → Low (orderHolds entries)
+unfolding orderHolds
+order-low entries = low-all _ entries (λ one. letters-low entries (one .place) (one .what))
+
+points-low : (phrases : Bool) (items : List (Placed (Item Event))) (size : ℕ) (entries : List (Placed Entry)) → Low (pointsOf phrases items size entries)
+unfolding pointsOf
+points-low true items size entries = low-then _ _ (holds-low _ _ entries) (order-low entries)
+points-low false items size entries = holds-low _ _ entries
+
+seek-low : (phrases : Bool) (items : List (Placed (Item Event))) (size : ℕ) (s : List ℕ) (o : Option Chunk) → Low (entriesOf phrases items size s o)
+unfolding entriesOf seekIn
+seek-low phrases items size s none = tt
+seek-low phrases items size s (some one) =
+    low-counted _ _ (low-bind _ _ (form-low _ _) (λ entries. low-then _ _ (points-low phrases items size entries) tt))
+
+-- 8 TO 14: TRACKS
+
+required-low : (header : ℕ) (o : Option Chunk) → Low (required header o)
+unfolding required
+required-low header none = omega arith
+required-low header (some one) = tt
+
+setups-low : (s : List ℕ) (o : Option Chunk) → Low (setupHolds s o)
+unfolding setupHolds
+setups-low s none = tt
+setups-low s (some one) = low-then _ _ (low-counted _ _ (setup-low _)) tt
+
+fixed-low : (voice : Voice) (s : List ℕ) (one : Chunk) → Low (fixedHolds voice s one)
+unfolding fixedHolds
+fixed-low voice s one =
+    low-test _ 8 _ _ (omega arith) (low-test _ 8 _ _ (omega arith) (low-test _ 8 _ _ (omega arith) (low-test _ 8 _ passed (omega arith) tt)))
+
+track-low : (s : List ℕ) (voice : Voice) (one : Chunk) → Low (trackOf s voice one)
+unfolding trackOf
+track-low s voice one =
+    low-then _ _ (fixed-low voice s one)
+    (low-bind _ _ (list-low _ s _ _)
+    (λ parts. low-bind _ _ (required-low _ _)
+    (λ sequence. low-then _ _ (if-all Low _ _ _ (λ h. tt) (λ h. omega arith))
+    (low-then _ _ (setups-low s _)
+    (low-bind _ _ (low-counted _ _ (body-low voice _))
+    (λ items. low-bind _ _ (seek-low _ items _ s _) (λ entries. tt)))))))
+
+-- 1 TO 14: FILES
+
+voice-low : (s : List ℕ) (one : Chunk) → Low (voiceOf s one)
+unfolding voiceOf scoreVoice pcmVoice
+voice-low s one =
+    if-all Low _ _ _ (λ h. low-test _ 8 _ _ (omega arith) (if-all Low _ _ _ (λ k. tt) (λ k. tt)))
+    (λ h. if-all Low _ _ _ (λ k. low-test _ 8 _ _ (omega arith) tt) (λ k. tt))
+
+opened-low : (s : List ℕ) (one : Chunk) (voice : Option Voice) → Low (opened s one voice)
+unfolding opened
+opened-low s one none = tt
+opened-low s one (some voice) = low-bind _ _ (track-low s voice one) (λ track. tt)
+
+top-low : (s : List ℕ) (one : Chunk) → Low (topOf s one)
+unfolding topOf
+top-low s one = low-bind _ _ (voice-low s one) (λ voice. opened-low s one voice)
+
+frame-low : (s : List ℕ) → Low (frameOf s)
+unfolding frameOf
+frame-low s =
+    low-then _ _ (low-test _ 2 0 passed (omega arith) tt)
+    (low-then _ _ (if-all Low _ _ _ (λ h. tt) (λ h. omega arith))
+    (low-bind _ _ (list-low _ s _ _)
+    (λ chunks. low-then _ _ (if-all Low _ _ _ (λ h. tt) (λ h. omega arith)) (low-then _ _ (if-all Low _ _ _ (λ h. tt) (λ h. omega arith)) tt))))
+
+contents-low : (s : List ℕ) → Low (contentsOf s)
+unfolding contentsOf
+contents-low s = low-bind _ _ (frame-low s) (λ chunks. low-bind _ _ (low-each (topOf s) chunks (top-low s)) (λ tops. tt))
+
+pub file-refused : (buffer : List ℕ) (n number place : ℕ) → fileOf buffer n ≡ refused number place → (1 ≤ number) × (number ≤ 14)
+unfolding fileOf
+file-refused buffer n number place e = subst Low e (low-then _ _ (low-test _ 1 0 passed (omega arith) tt) (contents-low (take n buffer)))

@@ -1,0 +1,96 @@
+-- A readable track of an accepted file: its items are what its body reads to, and its body is a part of the file.
+use Prim.Native.Nat.{ℕ, _+_, _<_, _≤_}
+use mathlib.Core.List.{List, [], _∷_}
+use mathlib.Core.Option.{some}
+use mathlib.Core.Path.{_≡_, refl, sym, _∙_, ap, subst}
+use lib.ListN.{length, take, drop, length-take, List·getD-eq-default}
+use lib.Seq.{getD-take, getD-drop}
+use native.Mathlib.Omega.{arith}
+use native.Mathlib.Decide.{decLt}
+use Rattle.model.specs.Words.{_≡?_, Checked, Checked.fine, Checked.refused, countedFrom, each}
+use Rattle.model.specs.Bytes.{_!_, part}
+use Rattle.model.specs.Item.{bodyOf}
+use Rattle.model.specs.Chunk.{Chunk}
+use Rattle.model.specs.Track.{Track, trackOf}
+use Rattle.model.specs.File.{File, Top, Top.leaf, Top.readable, topOf, fileOf, partsOf, trackIn, trackFrom, trackAt}
+use Rattle.model.specs.declared.Voice.{Voice}
+use Rattle.model.proofs.Tests.{by-test, if-true, if-false}
+use Rattle.reading.proofs.OneTop.{then-fine, bind-fine}
+use Rattle.reading.proofs.Accepted.{stated-bytes, contents-made, each-fine, each-none, OpenedAs, opened-as}
+
+-- bytes of a part are bytes
+
+take-bytes : (s : List ℕ) (size : ℕ) → ((k : ℕ) → s ! k < 256) → (k : ℕ) → take size s ! k < 256
+take-bytes s size bytes k =
+    elim (decLt k size) [
+      | yes h ↦ omega (arith, getD-take size s k 0 h, bytes k)
+      | no h ↦
+          let short : length (take size s) ≤ k = simp length-take (omega arith) in
+          omega (arith, List·getD-eq-default (take size s) 0 short)
+    ]
+
+part-bytes : (s : List ℕ) (place size : ℕ) → ((k : ℕ) → s ! k < 256) → (k : ℕ) → part s place size ! k < 256
+part-bytes s place size bytes k = take-bytes (drop place s) size (λ j. omega (arith, getD-drop place s j 0, bytes (place + j))) k
+
+-- the body of a track
+counted-fine : {A : Type 0} (base : ℕ) (c : Checked A) (a : A) → countedFrom base c ≡ fine a → c ≡ fine a
+unfolding countedFrom
+counted-fine base (fine b) a e = e
+counted-fine base (refused number place) a e = let z : _≡_ {A = ℕ} 0 1 = cc in absurd (omega arith)
+
+record Body (s : List ℕ) (track : Track) : Type 0 where
+  place : ℕ
+  size : ℕ
+  is : track .body ≡ part s place size
+  reads : bodyOf (track .voice) (track .body) ≡ fine (track .items)
+
+abbrev trackOr : Track → Checked Track → Track
+trackOr other (fine track) = track
+trackOr other (refused number place) = other
+
+track-body : (s : List ℕ) (voice : Voice) (chunk : Chunk) (track : Track) → trackOf s voice chunk ≡ fine track → Body s track
+unfolding trackOf
+track-body s voice chunk track e =
+    let a = then-fine _ _ track e in
+    let b = bind-fine _ _ track (a .1) in
+    let c = bind-fine _ _ track (b .2) in
+    let d = then-fine _ _ track (c .2) in
+    let f = then-fine _ _ track (d .1) in
+    let g = bind-fine _ _ track (f .1) in
+    let h = bind-fine _ _ track (g .2) in
+    subst (Body s) (ap (trackOr track) (h .2))
+    (record { place = c .0 .place + 8; size = c .0 .size; is = refl; reads = counted-fine (c .0 .place + 8) _ (g .0) (g .1) })
+
+-- the track that a row names
+track-opened : (s : List ℕ) (chunk : Chunk) (top : Top) (track : Track) → OpenedAs s chunk top → trackIn top ≡ some track → Body s track
+unfolding trackIn
+track-opened s chunk (leaf one) track o e = let z : _≡_ {A = ℕ} 0 1 = cc in absurd (omega arith)
+track-opened s chunk (readable one made) track o e =
+    let same : made ≡ track = cc in
+    track-body s (o .1) chunk track (o .3 ∙ ap fine same)
+
+row-opened : (s : List ℕ) (row k : ℕ) (chunks : List Chunk) (tops : List Top) (track : Track) → each (topOf s) chunks ≡ fine tops
+    → trackFrom row k tops ≡ some track → Body s track
+unfolding trackFrom
+row-opened s row k [] tops track e h =
+    let empty = ap (trackFrom row k) (sym (each-none (topOf s) tops e)) ∙ h in
+    let z : _≡_ {A = ℕ} 0 1 = cc in
+    absurd (omega arith)
+row-opened s row k (chunk ∷ chunks) tops track e h =
+    let o = each-fine (topOf s) chunk chunks tops e in
+    let asked : trackFrom row k (o .0 ∷ o .1) ≡ some track = ap (trackFrom row k) (sym (o .4)) ∙ h in
+    by-test (row ≡? k)
+    (λ hit. track-opened s chunk (o .0) track (opened-as s chunk (o .0) (o .2)) (sym (if-true (row ≡? k) _ _ hit) ∙ asked))
+    (λ miss. row-opened s row (k + 1 + length (partsOf (o .0))) chunks (o .1) track (o .3) (sym (if-false (row ≡? k) _ _ miss) ∙ asked))
+
+pub record Readable (track : Track) : Type 0 where
+  pub bytes : (k : ℕ) → track .body ! k < 256
+  pub reads : bodyOf (track .voice) (track .body) ≡ fine (track .items)
+
+pub named-reads : (buffer : List ℕ) (n row : ℕ) (file : File) (track : Track) → ((k : ℕ) → buffer ! k < 256) → fileOf buffer n ≡ fine file
+    → trackAt file row ≡ some track → Readable track
+unfolding trackAt
+named-reads buffer n row file track bytes e h =
+    let made = contents-made (take n buffer) file (stated-bytes buffer n file e .1) in
+    let body = row-opened (take n buffer) row 1 (made .chunks) (file .tops) track (made .opens) h in
+    record { bytes = rw (body .is) (part-bytes (take n buffer) (body .place) (body .size) (take-bytes buffer n bytes)); reads = body .reads }

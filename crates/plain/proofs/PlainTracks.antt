@@ -1,0 +1,98 @@
+-- DEMAND 3: "Each readable track can be turned into one plain sequence that plays the same messages, in the same order, at the same steps,
+-- with the same end." Over every accepted file and every row that names a readable track with a play order: the plain form is a body of the
+-- track's voice, its items are exactly what was written, and as a stream without points it plays the tune that the track plays, exclusives
+-- by their bytes. And it is its own plain form.
+use Prim.Native.Nat.{ℕ, _<_}
+use mathlib.Core.Bool.{false}
+use mathlib.Core.List.{List, [], _∷_, _++_}
+use mathlib.Core.Option.{Option, none, some}
+use mathlib.Core.Path.{_≡_, refl, sym, _∙_, ap, ap₂, subst}
+use native.Mathlib.Omega.{arith}
+use Rattle.model.specs.Words.{_otherwise_, firstSaid, Placed, Checked.fine}
+use Rattle.model.specs.Bytes.{_!_}
+use Rattle.model.specs.Item.{Item, bodyOf}
+use Rattle.model.specs.Seek.{startPoint, stopPoint}
+use Rattle.model.specs.Play.{Section, retold}
+use Rattle.model.specs.Track.{Track}
+use Rattle.model.specs.File.{trackAt}
+use Rattle.model.specs.Order.{streamSection, orderOf, playOrder, tuneIn}
+use Rattle.model.specs.Plain.{plainItems, plainForm}
+use Rattle.model.specs.Content.{contentOf, contentsIn, handyPhone}
+use Rattle.model.specs.Answer.{Performance, named, ordered, performed, plainOf}
+use Rattle.model.specs.declared.Event.{Event}
+use Rattle.reading.proofs.OneTop.{bind-fine}
+use Rattle.plain.proofs.Streams.{streamed}
+use Rattle.plain.proofs.PlainReads.{WritableTune, plain-reads}
+use Rattle.plain.proofs.NamedTracks.{named-reads}
+use Rattle.plain.proofs.Performances.{tune-writable}
+
+-- WHAT A PERFORMANCE IS
+
+pub named-fine : (o : Option Track) (track : Track) → named o ≡ fine track → o ≡ some track
+unfolding named
+named-fine none track e = let z : _≡_ {A = ℕ} 0 1 = cc in absurd (omega arith)
+named-fine (some one) track e = let same : one ≡ track = cc in ap some same
+
+ordered-fine : (track : Track) (o : Option (List Section)) (performance : Performance) → ordered track o ≡ fine performance
+    → (sections : List Section) × (o ≡ some sections) × (_≡_ {A = Performance} (record { track = track; tune = tuneIn track sections }) performance)
+unfolding ordered
+ordered-fine track none performance e = let z : _≡_ {A = ℕ} 0 1 = cc in absurd (omega arith)
+ordered-fine track (some sections) performance e = (sections, refl, cc)
+
+performance-writable : (buffer : List ℕ) (n row : ℕ) (performance : Performance) → ((k : ℕ) → buffer ! k < 256) → performed buffer n row ≡ fine performance
+    → WritableTune (performance .track .voice) (retold (contentOf (performance .track .body)) (performance .tune))
+unfolding performed
+performance-writable buffer n row performance bytes e =
+    let file = bind-fine _ _ performance e in
+    let track = bind-fine _ _ performance (file .2) in
+    let order = ordered-fine (track .0) (playOrder (track .0)) performance (track .2) in
+    let there = named-fine (trackAt (file .0) row) (track .0) (track .1) in
+    subst (λ (p : Performance). WritableTune (p .track .voice) (retold (contentOf (p .track .body)) (p .tune))) (order .2)
+    (tune-writable (track .0) (order .0) (named-reads buffer n row (file .0) (track .0) bytes (file .1) there) (order .1))
+
+-- THE PLAIN FORM of a performance: its items, its last four bytes, that the items are what was written, that as a stream without points
+-- they play the same tune, and that flattening it again gives it.
+pub record Flattened (performance : Performance) : Type 0 where
+  pub items : List (Placed (Item Event))
+  pub reads : bodyOf (performance .track .voice) (plainOf performance) ≡ fine items
+  pub closed : (front : List ℕ) × (plainOf performance ≡ front ++ (0 ∷ 0 ∷ 0 ∷ 0 ∷ []))
+  pub written : contentsIn (plainOf performance) items ≡ plainItems handyPhone (retold (contentOf (performance .track .body)) (performance .tune))
+  pub same : retold (contentOf (plainOf performance)) (streamed items) ≡ retold (contentOf (performance .track .body)) (performance .tune)
+  pub again : plainForm handyPhone (retold (contentOf (plainOf performance)) (streamed items)) ≡ plainOf performance
+
+pub plays-the-same : (buffer : List ℕ) (n row : ℕ) (performance : Performance) → ((k : ℕ) → buffer ! k < 256) → performed buffer n row ≡ fine performance
+    → Flattened performance
+unfolding plainOf
+plays-the-same buffer n row performance bytes e =
+    let plain =
+    plain-reads (performance .track .voice) (retold (contentOf (performance .track .body)) (performance .tune))
+    (performance-writable buffer n row performance bytes e) in
+    record { items = plain .items; reads = plain .reads; closed = plain .closed; written = plain .written; same = plain .same; again = plain .again }
+
+-- FLATTENED AGAIN: a stream without points whose body is a plain form has that plain form.
+
+whole-order : (track : Track) → track .phrases ≡ false → track .entries ≡ [] → playOrder track ≡ some (streamSection (track .items) 0 none ∷ [])
+unfolding playOrder orderOf startPoint stopPoint firstSaid _otherwise_
+whole-order track stream points = rw (stream, points) refl
+
+-- the plain form of a body with these items, as such a stream
+abbrev streamPlain : List ℕ → List (Placed (Item Event)) → List ℕ
+streamPlain body items = plainForm handyPhone (retold (contentOf body) (streamed items))
+
+whole-plain : (track : Track)
+    → plainOf (record { track = track; tune = tuneIn track (streamSection (track .items) 0 none ∷ []) }) ≡ streamPlain (track .body) (track .items)
+unfolding plainOf tuneIn
+whole-plain track = refl
+
+pub plain-of-plain : (performance : Performance) (track : Track) → Flattened performance → track .voice ≡ performance .track .voice
+    → track .body ≡ plainOf performance → bodyOf (track .voice) (track .body) ≡ fine (track .items) → track .phrases ≡ false → track .entries ≡ []
+    → (again : Performance) × (ordered track (playOrder track) ≡ fine again) × (plainOf again ≡ plainOf performance)
+unfolding ordered
+plain-of-plain performance track flat voice body reads stream points =
+    let order = streamSection (track .items) 0 none ∷ [] in
+    let both : fine (track .items) ≡ fine (flat .items) = sym reads ∙ rw (voice, body) (flat .reads) in
+    let items : track .items ≡ flat .items = cc in (
+      record { track = track; tune = tuneIn track order },
+      rw (whole-order track stream points) refl,
+      whole-plain track ∙ ap₂ streamPlain body items ∙ flat .again,
+    )

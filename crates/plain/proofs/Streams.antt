@@ -1,0 +1,97 @@
+-- Paper, "Playing": a stream without points plays every message of its body, at its onset, and lasts as long as its items. So what a body
+-- plays, told by the contents of its events, is told by the contents of its items.
+use Prim.Native.Nat.{ℕ, _+_, _-_}
+use mathlib.Core.List.{List, [], _∷_, map, append-nil}
+use mathlib.Core.Option.{none}
+use mathlib.Core.Path.{_≡_, refl, _∙_, ap, ap₂}
+use native.Mathlib.Omega.{arith}
+use borrow.Author.Tests.{le-ltb}
+use Rattle.model.specs.Words.{if_then_else_, _<?_, keep, sum}
+use Rattle.model.specs.Item.{Item, Item.timed, Item.endMark, durationOf, lasting}
+use Rattle.model.specs.Play.{At, Tune, onsetsAfter, withMessage, messagesOf, sounding, playedFrom, tuneOf, retold}
+use Rattle.model.specs.Points.{timeOf}
+use Rattle.model.specs.Word.{isMessage}
+use Rattle.model.specs.Order.{streamSection}
+use Rattle.model.specs.Content.{Content, contentOf, contentIn, contentsIn, isSaid}
+use Rattle.model.specs.declared.Event.{Event}
+use Rattle.model.specs.declared.Event.the-variants.{Nop, Note, Wave, Control, Exclusive}
+use Rattle.model.proofs.Tests.{by-test}
+use Rattle.sections.specs.Spans.{Items, messagesAfter, messagesWithin, counted}
+use Rattle.sections.proofs.Steps.{all-within}
+use Rattle.plain.proofs.PlainPlays.{durations}
+
+-- what a body plays as a stream without points
+abbrev pub streamed : Items → Tune Event
+streamed items = tuneOf isMessage (map (λ item. item .what) items) (streamSection items 0 none ∷ [])
+
+none-before : (items : Items) → keep (λ item. item .place <? 0) items ≡ []
+unfolding keep if_then_else_
+none-before [] = refl
+none-before (item ∷ items) = rw (le-ltb (item .place) 0 (omega arith)) (none-before items)
+
+starts-at-none : (items : Items) → timeOf items 0 ≡ 0
+unfolding timeOf lasting sum
+starts-at-none items = ap lasting (none-before items)
+
+as-they-are : (start : ℕ) (messages : List (At Event)) → start ≡ 0 → map (counted 0 start) messages ≡ messages
+as-they-are start [] h = refl
+as-they-are start (at ∷ messages) h =
+    let step : 0 + (at .step - start) ≡ at .step = omega arith in
+    ap₂ (λ (n : ℕ) (later : List (At Event)). record { step = n; event = at .event } ∷ later) step (as-they-are start messages h)
+
+stream-messages : (items : Items) → streamed items .messages ≡ messagesAfter 0 items
+unfolding tuneOf playedFrom sounding streamSection
+stream-messages items =
+    append-nil (map (counted 0 (timeOf items 0)) (messagesWithin (streamSection items 0 none) items))
+    ∙ ap (map (counted 0 (timeOf items 0))) (all-within (streamSection items 0 none) items (starts-at-none items) refl)
+    ∙ as-they-are (timeOf items 0) (messagesAfter 0 items) (starts-at-none items)
+
+stream-end : (items : Items) → streamed items .end ≡ lasting items
+unfolding tuneOf streamSection sum
+stream-end items = omega (arith, starts-at-none items)
+
+-- an event is a message where its content is one
+pub said-so : (body : List ℕ) (event : Event) → isSaid (contentOf body event) ≡ isMessage event
+unfolding contentOf isSaid isMessage
+said-so body Nop = refl
+said-so body (Note channel key gate) = refl
+said-so body (Wave channel number gate) = refl
+said-so body (Control kind channel value) = refl
+said-so body (Exclusive place size) = refl
+
+-- a message of a body, told by its content
+abbrev pub told : List ℕ → At Event → At Content
+told body at = record { step = at .step; event = contentOf body (at .event) }
+
+module _ (body : List ℕ) where
+  with-told : (onset : ℕ) (item : Item Event) (messages : List (At Event))
+      → map (told body) (withMessage isMessage onset item messages) ≡ withMessage isSaid onset (contentIn body item) (map (told body) messages)
+  unfolding withMessage contentIn if_then_else_
+  with-told onset (timed duration event) messages = rw (said-so body event) (by-test (isMessage event) (λ t. simp t) (λ t. simp t))
+  with-told onset endMark messages = refl
+
+  duration-told : (item : Item Event) → durationOf (contentIn body item) ≡ durationOf item
+  unfolding contentIn durationOf
+  duration-told (timed duration event) = refl
+  duration-told endMark = refl
+
+  messages-told : (past : ℕ) (items : Items) → map (told body) (messagesAfter past items) ≡ messagesOf isSaid (onsetsAfter past (contentsIn body items))
+  unfolding contentsIn onsetsAfter messagesOf
+  messages-told past [] = refl
+  messages-told past (item ∷ items) =
+      rw (duration-told (item .what))
+      (with-told (past + durationOf (item .what)) (item .what) (messagesAfter (past + durationOf (item .what)) items)
+      ∙ ap (withMessage isSaid (past + durationOf (item .what)) (contentIn body (item .what))) (messages-told (past + durationOf (item .what)) items))
+
+  lasting-told : (items : Items) → lasting items ≡ durations (contentsIn body items)
+  unfolding contentsIn lasting sum
+  lasting-told [] = refl
+  lasting-told (item ∷ items) = omega (arith, duration-told (item .what), lasting-told items)
+
+  pub stream-told : (items : Items)
+      → retold (contentOf body) (streamed items)
+      ≡ record { messages = messagesOf isSaid (onsetsAfter 0 (contentsIn body items)); end = durations (contentsIn body items) }
+  unfolding retold
+  stream-told items =
+      ap₂ (λ (messages : List (At Content)) (end : ℕ). record { messages = messages; end = end })
+      (ap (map (told body)) (stream-messages items) ∙ messages-told 0 items) (stream-end items ∙ lasting-told items)
