@@ -8,3 +8,5 @@ pub mod Bounded
 pub mod Planning
 pub mod Writing
 pub mod Together
+pub mod OrderPlayed
+pub mod Operations

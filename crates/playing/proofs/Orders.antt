@@ -8,7 +8,7 @@ use lib.ListN.{length, take, drop, length-take, length-drop}
 use lib.Seq.{take-nil, take-take, drop-drop, getD-take, getD-drop}
 use native.Mathlib.Nat.{sub-zero}
 use native.Mathlib.Omega.{arith}
-use borrow.Author.Tests.{ltb-false, eqb-false, not-true}
+use borrow.Author.Tests.{ltb-false, eqb-false, not-true, not-false}
 use Rattle.model.specs.Words.{if_then_else_, _<?_, _≡?_, isSome, _otherwise_, firstSaid, Placed, Checked, Checked.fine, Checked.refused, passed, _>>_}
 use Rattle.model.specs.Bytes.{_!_, part}
 use Rattle.model.specs.Item.{Item, isFine, found, itemsOf}
@@ -80,11 +80,14 @@ module _ (voice : Voice) (body seek : List ℕ) (ready : Ready voice true body s
   has-list = ap (λ (p : Points). p .ordered) said
 
   -- without an order list there is no order
-  pub unordered : points .ordered ≡ false → orderOf true (itemsOf voice body) (entriesSaid true seek) ≡ none
+  pub unordered : not (points .ordered) ≡ true → orderOf true (itemsOf voice body) (entriesSaid true seek) ≡ none
   unfolding orderOf phraseOrder
-  unordered h = rw (no-list (orderList entries) (sym has-list ∙ h))
+  unordered h = rw (no-list (orderList entries) (sym has-list ∙ not-true _ h))
 
-  module _ (has : points .ordered ≡ true) where
+  module _ (flag : not (points .ordered) ≡ false) where
+    has : points .ordered ≡ true
+    has = not-false _ flag
+
     abbrev list : List ℕ
     list = orderList entries otherwise []
 

@@ -53,7 +53,7 @@ module _ (o : Checked (Tune Event)) (header room : ℕ) (tune : Tune Event) (is 
   counted : count ≡ length (tune .messages)
   counted = many ∙ ap length are
 
-  tune-short : room < count → o ≡ refused 15 header
+  pub tune-short : room < count → o ≡ refused 15 header
   unfolding fitted if_then_else_
   tune-short h = let short : room < length (tune .messages) = omega (arith, counted) in is ∙ simp lt-ltb
 
@@ -61,18 +61,18 @@ module _ (o : Checked (Tune Event)) (header room : ℕ) (tune : Tune Event) (is 
   unfolding fitted if_then_else_
   tune-fits h = let enough : length (tune .messages) ≤ room = omega (arith, counted) in is ∙ simp le-ltb
 
-  tune-answer : (end : ℕ) → end ≡ tune .end → count ≤ room → play.Rows count end ≡ playAnswer o
+  pub tune-answer : (end : ℕ) → end ≡ tune .end → count ≤ room → play.Rows count end ≡ playAnswer o
   unfolding playAnswer
   tune-answer end e h = ap₂ (λ (k t : ℕ). play.Rows k t) counted e ∙ ap playAnswer (sym (tune-fits h))
 
-  tune-steps : (l m : List ℕ) → count ≤ room → room ≤ length l → m ≡ sets l 0 (stepsOf rows) → m ≡ stepsTable l o
+  pub tune-steps : (l m : List ℕ) → count ≤ room → room ≤ length l → m ≡ sets l 0 (stepsOf rows) → m ≡ stepsTable l o
   unfolding stepsTable memoryAfter stepsOf
   tune-steps l m h k e =
       e ∙ written-front l (stepsOf rows) (omega (arith, length-map rows (λ row. row .step)))
       ∙ ap (λ (r : List (At Event)). writtenOver l (stepsOf r)) are
       ∙ ap (stepsTable l) (sym (tune-fits h))
 
-  tune-words : (l m : List ℕ) → count ≤ room → room ≤ length l → m ≡ sets l 0 (wordsOf rows) → m ≡ wordsTable l o
+  pub tune-words : (l m : List ℕ) → count ≤ room → room ≤ length l → m ≡ sets l 0 (wordsOf rows) → m ≡ wordsTable l o
   unfolding wordsTable memoryAfter wordsOf
   tune-words l m h k e =
       e ∙ written-front l (wordsOf rows) (omega (arith, length-map rows (λ row. wordOf (row .event))))

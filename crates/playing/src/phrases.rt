@@ -1,11 +1,15 @@
 // Phrases in the order of their list.
 ghost use mathlib.Core.Path.{_≡_};
 ghost use mathlib.Core.Bool.{true};
-ghost use Prim.Native.Nat.{_+_, _-_, min};
+ghost use mathlib.Core.List.{map};
+ghost use mathlib.Core.Option.{some};
+ghost use Prim.Native.Nat.{_+_, _-_, _≤_, min};
 ghost use lib.ListN.{length};
 ghost use Rattle.model.specs.Bytes.{part};
+ghost use Rattle.model.specs.Item.{itemsOf};
+ghost use Rattle.model.specs.Order.{orderOf};
 ghost use Rattle.model.specs.Answer.{playAnswer, stepsTable, wordsTable};
-ghost use Rattle.playing.specs.Performing.{Ready, Listed, lastPosition, heard};
+ghost use Rattle.playing.specs.Performing.{entriesSaid, Ready, Listed, lastPosition, letterSection, Named, heard};
 use super::letters::plan_letters;
 use super::letters::write_letters;
 use super::stream::points_of;
@@ -33,6 +37,39 @@ fn letters_played<'a>(seek: &'a [u8], points: Points) -> &'a [u8]
     &seek[from..to]
 }
 
+// The letters that are played, planned, and written where they have room.
+fn play_letters(
+    voice: Voice,
+    header: usize,
+    body: &[u8],
+    seek: &[u8],
+    letters: &[u8],
+    steps: &mut [u64],
+    words: &mut [u32],
+) -> PlayAnswer
+    requires { ⌜ Ready voice true (now body) (now seek) ⌝ }
+    requires { ⌜ length (now letters) ≤ 65536 ⌝ }
+    requires { ⌜ Named (entriesSaid true (now seek)) (now letters) ⌝ }
+    requires { ⌜ orderOf true (itemsOf voice (now body)) (entriesSaid true (now seek)) ≡ some (map (letterSection (itemsOf voice (now body)) (entriesSaid true (now seek))) (now letters)) ⌝ }
+    ensures { λ r. ⌜ r ≡ playAnswer (heard voice true header (min (length (now (steps .entry))) (length (now (words .entry)))) (now (body .entry)) (now (seek .entry))) ⌝ }
+    ensures { λ _. ⌜ now (steps .exit) ≡ stepsTable (now (steps .entry)) (heard voice true header (min (length (now (steps .entry))) (length (now (words .entry)))) (now (body .entry)) (now (seek .entry))) ⌝ }
+    ensures { λ _. ⌜ now (words .exit) ≡ wordsTable (now (words .entry)) (heard voice true header (min (length (now (steps .entry))) (length (now (words .entry)))) (now (body .entry)) (now (seek .entry))) ⌝ }
+{
+    let plan = plan_letters(voice, body, seek, letters);
+    if shorter(steps, words) < plan.count {
+        return PlayAnswer::Refused {
+            number: 15,
+            place: header,
+        };
+    }
+    let spans = plan.spans;
+    write_letters(voice, body, spans, letters, steps, words);
+    PlayAnswer::Rows {
+        count: plan.count,
+        end: plan.end,
+    }
+}
+
 pub fn play_phrases(
     voice: Voice,
     header: usize,
@@ -53,18 +90,13 @@ pub fn play_phrases(
             place: header,
         };
     }
-    let letters = letters_played(seek, points);
-    let plan = plan_letters(voice, body, seek, letters);
-    if shorter(steps, words) < plan.count {
-        return PlayAnswer::Refused {
-            number: 15,
-            place: header,
-        };
-    }
-    let spans = plan.spans;
-    write_letters(voice, body, spans, letters, steps, words);
-    PlayAnswer::Rows {
-        count: plan.count,
-        end: plan.end,
-    }
+    play_letters(
+        voice,
+        header,
+        body,
+        seek,
+        letters_played(seek, points),
+        steps,
+        words,
+    )
 }

@@ -1,27 +1,21 @@
+-- `playing::bodies::bytes_in` meets its contract.
 use Rattle.playing.proofs.Rows.{cut-out}
 use borrow.Author.Needs.{needs}
 use Rattle.playing.proofs.bodies.bytes_in.Statement.{statement}
 use Rattle.playing.proofs.bodies.bytes_in.Tie as tie
-use Rattle.playing.proofs.bodies.bytes_in.Reads as reads
-use Rattle.playing.proofs.bodies.bytes_in.Lts as lts
 
--- src/bodies.rt:25:15
 add-end : tie.Need-add-end
 add-end c = search needs
 
--- src/bodies.rt:26:5
 sub-result : tie.Need-sub-result
 sub-result c = search needs
 
--- src/bodies.rt:26:5
 part-result-start : tie.Need-part-result-start
 part-result-start c = search needs
 
--- src/bodies.rt:26:5
 part-result-end : tie.Need-part-result-end
 part-result-end c = search needs
 
--- src/bodies.rt:20:1
 returns : tie.Need-returns
 returns c = search cut-out
 

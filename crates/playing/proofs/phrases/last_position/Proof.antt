@@ -1,21 +1,17 @@
+-- `playing::phrases::last_position` meets its contract.
 use Rattle.model.proofs.Tests.{tests}
 use Rattle.playing.specs.Performing.{lastPosition}
 use borrow.Author.Needs.{needs}
 use Rattle.playing.proofs.phrases.last_position.Statement.{statement}
 use Rattle.playing.proofs.phrases.last_position.Tie as tie
-use Rattle.playing.proofs.phrases.last_position.Reads as reads
-use Rattle.playing.proofs.phrases.last_position.Lts as lts
 
--- src/phrases.rt:21:16
 cast-result : tie.Need-cast-result
 cast-result c = search needs
 
--- src/phrases.rt:21:9
 returns : tie.Need-returns
 unfolding lastPosition
 returns c = search tests
 
--- src/phrases.rt:17:1
 returns-2 : tie.Need-returns-2
 unfolding lastPosition
 returns-2 c = search tests

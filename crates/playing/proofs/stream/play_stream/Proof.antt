@@ -1,46 +1,33 @@
+-- `playing::stream::play_stream` meets its contract.
 use Rattle.playing.proofs.Played.{stream-played}
 use borrow.Author.Needs.{needs}
 use Rattle.playing.proofs.stream.play_stream.Statement.{statement}
 use Rattle.playing.proofs.stream.play_stream.Tie as tie
-use Rattle.playing.proofs.stream.play_stream.Reads as reads
-use Rattle.playing.proofs.stream.play_stream.Lts as lts
-use Rattle.playing.proofs.stream.shorter.Reads as shorter-reads
-use Rattle.playing.proofs.stream.span_of_stream.Reads as span-of-stream-reads
-use Rattle.sections.proofs.write_span.Reads as write-span-reads
 
--- src/stream.rt:72:9
 span-of-stream-requires : tie.Need-span-of-stream-requires
 span-of-stream-requires c κs = search needs
 
--- src/stream.rt:73:8
 shorter-requires : tie.Need-shorter-requires
 shorter-requires c κs = search needs
 
--- src/stream.rt:74:9
 same-length : tie.Need-same-length
 same-length c = search needs
 
--- src/stream.rt:74:9
 same-length-2 : tie.Need-same-length-2
 same-length-2 c = search needs
 
--- src/stream.rt:74:9
 returns : tie.Need-returns
 returns c = (search stream-played, (search (needs, stream-played), search (needs, stream-played)))
 
--- src/stream.rt:79:5
 write-span-requires : tie.Need-write-span-requires
 write-span-requires c κs = (search needs, (search needs, (search stream-played, (search needs, (search (needs, stream-played), search (needs, stream-played))))))
 
--- src/stream.rt:59:1
 same-length-3 : tie.Need-same-length-3
 same-length-3 c = search needs
 
--- src/stream.rt:59:1
 same-length-4 : tie.Need-same-length-4
 same-length-4 c = search needs
 
--- src/stream.rt:59:1
 returns-2 : tie.Need-returns-2
 returns-2 c = (search stream-played, (search (needs, stream-played), search (needs, stream-played)))
 
