@@ -91,7 +91,53 @@ fn is_good(case: Case, buffer: &mut [u8]) -> bool {
     io::read_full(0, &mut buffer[..size]) == size
 }
 
-// The answer to a good case: it lends the buffer and of each table as much as the case states.
+// Of the buffer and of each table a case lends as much as it states.
+fn lend_to_read(
+    page: &mut [u8],
+    used: usize,
+    case: Case,
+    buffer: &[u8],
+    table: &mut [u32],
+) -> usize {
+    let size = case.size as usize;
+    let numbers = case.room as usize * 4;
+    if buffer.len() < size || table.len() < numbers {
+        return used;
+    }
+    answer_read(
+        page,
+        used,
+        &buffer[..size],
+        case.stated,
+        &mut table[..numbers],
+    )
+}
+
+fn lend_to_play(
+    page: &mut [u8],
+    used: usize,
+    case: Case,
+    buffer: &[u8],
+    words: &mut [u32],
+    steps: &mut [u64],
+) -> usize {
+    let size = case.size as usize;
+    let room = case.room as usize;
+    if buffer.len() < size || words.len() < room || steps.len() < room {
+        return used;
+    }
+    answer_play(
+        page,
+        used,
+        &buffer[..size],
+        case.stated,
+        case.row,
+        &mut steps[..room],
+        &mut words[..room],
+    )
+}
+
+// The answer to a good case.
 fn answer(
     page: &mut [u8],
     used: usize,
@@ -100,30 +146,11 @@ fn answer(
     table: &mut [u32],
     steps: &mut [u64],
 ) -> usize {
-    let size = case.size as usize;
-    let room = case.room as usize;
-    if buffer.len() < size || table.len() / 4 < room || steps.len() < room {
-        return used;
-    }
     if case.operation == b'r' {
-        return answer_read(
-            page,
-            used,
-            &buffer[..size],
-            case.stated,
-            &mut table[..4 * room],
-        );
+        return lend_to_read(page, used, case, buffer, table);
     }
     if case.operation == b'p' {
-        return answer_play(
-            page,
-            used,
-            &buffer[..size],
-            case.stated,
-            case.row,
-            &mut steps[..room],
-            &mut table[..room],
-        );
+        return lend_to_play(page, used, case, buffer, table, steps);
     }
     let used = answer_pitch(page, used, case.stated, case.row);
     put(page, used, b"-- kept\n")

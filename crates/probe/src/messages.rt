@@ -32,6 +32,13 @@ fn is_kept_from(steps: &[u64], row: usize) -> bool {
     true
 }
 
+fn put_message(page: &mut [u8], used: usize, step: u64, word: u32) -> usize {
+    let used = put_decimal(page, used, step);
+    let used = put_byte(page, used, b' ');
+    let used = put_hex(page, used, word as u64, 8);
+    put_byte(page, used, b'\n')
+}
+
 fn put_messages(page: &mut [u8], used: usize, steps: &[u64], words: &[u32], rows: usize) -> usize {
     let mut now = used;
     let mut row: usize = 0;
@@ -39,10 +46,7 @@ fn put_messages(page: &mut [u8], used: usize, steps: &[u64], words: &[u32], rows
         if steps.len() <= row || words.len() <= row {
             return now;
         }
-        now = put_decimal(page, now, steps[row]);
-        now = put_byte(page, now, b' ');
-        now = put_hex(page, now, words[row] as u64, 8);
-        now = put_byte(page, now, b'\n');
+        now = put_message(page, now, steps[row], words[row]);
         row += 1;
     }
     now

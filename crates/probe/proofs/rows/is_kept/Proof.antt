@@ -1,45 +1,48 @@
--- `probe::rows::is_kept` meets its contract.
 use borrow.Author.Needs.{needs}
 use Prim.Native.Nat.{_≤_, _-_}
 use lib.ListN.{length}
 use Rattle.probe.proofs.rows.is_kept.Statement.{statement}
 use Rattle.probe.proofs.rows.is_kept.Tie as tie
+use Rattle.probe.proofs.rows.is_kept.Reads as reads
+use Rattle.probe.proofs.rows.is_kept.Lts as lts
 
 abbrev Inv-loop : tie.InvT-loop
-Inv-loop table rows i₀ i = i ≤ length table
+Inv-loop table numbers i₀ i = numbers ≤ i
 
 abbrev μ-loop : tie.MeasureT-loop
-μ-loop table rows i₀ i = length table - i
+μ-loop table numbers i₀ i = length table - i
 
-returns : tie.Need-returns Inv-loop μ-loop
-returns c = search needs
-
-mul-i : tie.Need-mul-i Inv-loop μ-loop
-mul-i c = search needs
-
+-- src/rows.rt:23:5
 loop-holds : tie.Need-loop-holds Inv-loop μ-loop
 loop-holds c = search needs
 
-mul-if2 : tie.Need-mul-if2 Inv-loop μ-loop
-mul-if2 c = search needs
+-- src/rows.rt:24:12
+mul-if1 : tie.Need-mul-if1 Inv-loop μ-loop
+mul-if1 c = search needs
 
-shared-slice-read-if2 : tie.Need-shared-slice-read-if2 Inv-loop μ-loop
-shared-slice-read-if2 c = search needs
+-- src/rows.rt:24:12
+shared-slice-read-if1 : tie.Need-shared-slice-read-if1 Inv-loop μ-loop
+shared-slice-read-if1 c = search needs
 
-returns-2 : tie.Need-returns-2 Inv-loop μ-loop
-returns-2 c = search needs
+-- src/rows.rt:25:13
+returns : tie.Need-returns Inv-loop μ-loop
+returns c = search needs
 
+-- src/rows.rt:27:9
 add-i : tie.Need-add-i Inv-loop μ-loop
 add-i c = search needs
 
+-- src/rows.rt:23:5
 loop-less : tie.Need-loop-less Inv-loop μ-loop
 loop-less c = search needs
 
+-- src/rows.rt:23:5
 loop-again : tie.Need-loop-again Inv-loop μ-loop
 loop-again c = search needs
 
-returns-3 : tie.Need-returns-3 Inv-loop μ-loop
-returns-3 c = search needs
+-- src/rows.rt:21:1
+returns-2 : tie.Need-returns-2 Inv-loop μ-loop
+returns-2 c = search needs
 
 pub is-kept-spec : {M : Type 1} → statement M
 is-kept-spec =
@@ -47,13 +50,11 @@ is-kept-spec =
     (tie.spec
     Inv-loop
     μ-loop
-    returns
-    mul-i
     loop-holds
-    mul-if2
-    shared-slice-read-if2
-    returns-2
+    mul-if1
+    shared-slice-read-if1
+    returns
     add-i
     loop-less
     loop-again
-    returns-3)
+    returns-2)
