@@ -10,3 +10,4 @@ pub mod Writing
 pub mod Together
 pub mod OrderPlayed
 pub mod Operations
+pub mod Theorems
