@@ -1,3 +1,4 @@
+pub mod Said
 pub mod Openings
 pub mod Rows
 pub mod Streams

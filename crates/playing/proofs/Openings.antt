@@ -8,7 +8,7 @@ use lib.ListN.{length, length-take, length-drop}
 use native.Mathlib.Omega.{arith}
 use mir.Val.{Fits}
 use mir.Syntax.{w64}
-use Rattle.model.specs.Words.{if_then_else_, _≡?_, Placed, Checked, Checked.fine, Checked.refused, passed, _>>_, countedFrom, allPass}
+use Rattle.model.specs.Words.{_≡?_, Placed, Checked, Checked.fine, Checked.refused, passed, _>>_, countedFrom, allPass, if_then_else_}
 use Rattle.model.specs.Bytes.{_!_, part}
 use Rattle.model.specs.Chunk.{Chunk, bodyBytes, foundChunk}
 use Rattle.model.specs.Item.{Item, isFine, found, bodyOf, itemsOf}
@@ -22,7 +22,6 @@ use Rattle.model.specs.declared.FoundChunk.{FoundChunk}
 use Rattle.model.specs.declared.FoundChunk.the-variants.{At, Nowhere}
 use Rattle.model.specs.declared.Bodies.{Bodies}
 use Rattle.model.specs.declared.Extent.{Extent}
-use Rattle.model.specs.declared.OpenedTrack.{OpenedTrack}
 use Rattle.model.specs.declared.OpenedTrack.the-variants as opened
 use Rattle.chunks.specs.Kept.{chunksIn}
 use Rattle.model.proofs.Tests.{by-test, if-true, if-false}
@@ -30,7 +29,7 @@ use Rattle.tracks.proofs.Stages.{part-there}
 use Rattle.reading.specs.Stages.{placed}
 use Rattle.reading.proofs.OneTop.{then-fine, bind-fine, fine-some}
 use Rattle.reading.proofs.Accepted.{fixed-inside, parts-read}
-use Rattle.playing.specs.Performing.{entriesSaid, Ready, bytesIn, Open, Opens, trackIn}
+use Rattle.playing.specs.Performing.{entriesSaid, bytesIn, Open, Opens, trackIn}
 
 -- WHAT A TRACK IS MADE OF
 

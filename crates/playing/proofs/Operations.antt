@@ -1,16 +1,16 @@
 -- PLAY from its steps: 1, then 2 to 14 on the whole file, then 16, then what the track plays from its bodies.
-use Prim.Native.Nat.{ℕ, _+_, _<_, _≤_, min}
-use mathlib.Core.Path.{_≡_, refl, sym, _∙_, ap, ap₂, subst}
-use mathlib.Core.Bool.{Bool, true, false}
+use Prim.Native.Nat.{ℕ, _<_, _≤_}
+use mathlib.Core.Path.{_≡_, refl, sym, _∙_, ap, subst}
+use mathlib.Core.Bool.{Bool, true}
 use mathlib.Core.List.{List}
 use mathlib.Core.Option.{Option, none, some}
 use lib.ListN.{length, take, length-take}
 use native.Mathlib.Omega.{arith}
 use borrow.Author.Tests.{lt-ltb, le-ltb}
 use Rattle.model.specs.Words.{if_then_else_, _or_, _<?_, Checked, Checked.fine, Checked.refused, passed, _>>=_, _>>_}
-use Rattle.model.specs.Item.{isFine, itemsOf}
+use Rattle.model.specs.Item.{isFine}
 use Rattle.model.specs.Play.{Section, Tune}
-use Rattle.model.specs.Order.{orderOf, playOrder, tuneIn}
+use Rattle.model.specs.Order.{playOrder, tuneIn}
 use Rattle.model.specs.Track.{Track}
 use Rattle.model.specs.File.{File, contentsOf, fileOf, trackAt}
 use Rattle.model.specs.Answer.{Performance, named, ordered, performed, playOf, playAnswer, stepsTable, wordsTable}
@@ -24,7 +24,7 @@ use Rattle.model.specs.declared.PlayAnswer.{PlayAnswer}
 use Rattle.model.specs.declared.PlayAnswer.the-variants as play
 use Rattle.model.proofs.Tests.{by-test}
 use Rattle.reading.specs.Stages.{fileAnswer}
-use Rattle.playing.specs.Performing.{entriesSaid, Ready, bytesIn, Inside, Open, Opens, trackNamed, fitted, played, heard, rowPlayed}
+use Rattle.playing.specs.Performing.{Ready, bytesIn, Inside, Open, Opens, trackNamed, fitted, played, heard, rowPlayed}
 use Rattle.playing.proofs.Played.{refused-answer, refused-steps, refused-words}
 
 -- what is answered and left where an outcome is known under another name

@@ -1,15 +1,15 @@
 -- What is played of an order list: 17 where there is none, and otherwise the rows of its letters, by the plan that was made of them.
 use Prim.Native.Nat.{ℕ, _<_, _≤_, min}
-use mathlib.Core.Path.{_≡_, refl, sym, _∙_, ap}
-use mathlib.Core.Bool.{true, false}
+use mathlib.Core.Path.{_≡_, sym, _∙_, ap}
+use mathlib.Core.Bool.{true}
 use mathlib.Core.List.{List, map}
-use mathlib.Core.Option.{Option, none, some}
+use mathlib.Core.Option.{none, some}
 use lib.ListN.{length}
 use lib.Seq.{sets}
 use native.Mathlib.Omega.{arith}
-use Rattle.model.specs.Words.{sum, Placed, Checked, Checked.refused}
+use Rattle.model.specs.Words.{Checked.refused}
 use Rattle.model.specs.Item.{itemsOf}
-use Rattle.model.specs.Play.{At, Section, Tune, playedFrom, tuneOf}
+use Rattle.model.specs.Play.{At, Tune, tuneOf}
 use Rattle.model.specs.Word.{isMessage}
 use Rattle.model.specs.Order.{orderOf}
 use Rattle.model.specs.Answer.{playAnswer, stepsTable, wordsTable}
@@ -17,7 +17,7 @@ use Rattle.model.specs.declared.Voice.{Voice}
 use Rattle.model.specs.declared.Event.{Event}
 use Rattle.model.specs.declared.Plan.{Plan}
 use Rattle.model.specs.declared.PlayAnswer.the-variants as play
-use Rattle.sections.specs.Spans.{Items, onsets, stepsOf, wordsOf}
+use Rattle.sections.specs.Spans.{Items, stepsOf, wordsOf}
 use Rattle.playing.specs.Performing.{entriesSaid, Ready, letterSection, AllPlayable, messagesTogether, lastsTogether, rowsTogether, Planned, fitted, played, heard}
 use Rattle.playing.proofs.Played.{refused-answer, refused-steps, refused-words, tune-short, tune-answer, tune-steps, tune-words}
 use Rattle.playing.proofs.Together.{letters-playable, letters-last, letters-sound, letters-count}

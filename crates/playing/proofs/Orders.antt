@@ -1,7 +1,7 @@
 -- The order list of a track with phrases: where its letters stand in the seek body, which of them are played, and that each has a phrase.
 use Prim.Native.Nat.{ℕ, zero, suc, _+_, _-_, _<_, _≤_}
 use mathlib.Core.Path.{_≡_, refl, sym, _∙_, ap, ap₂, subst}
-use mathlib.Core.Bool.{Bool, true, false, not, false≢true}
+use mathlib.Core.Bool.{true, false, not, false≢true}
 use mathlib.Core.List.{List, [], _∷_, map}
 use mathlib.Core.Option.{Option, none, some}
 use lib.ListN.{length, take, drop, length-take, length-drop}
@@ -9,9 +9,9 @@ use lib.Seq.{take-nil, take-take, drop-drop, getD-take, getD-drop}
 use native.Mathlib.Nat.{sub-zero}
 use native.Mathlib.Omega.{arith}
 use borrow.Author.Tests.{ltb-false, eqb-false, not-true, not-false}
-use Rattle.model.specs.Words.{if_then_else_, _<?_, _≡?_, isSome, _otherwise_, firstSaid, Placed, Checked, Checked.fine, Checked.refused, passed, _>>_}
+use Rattle.model.specs.Words.{_≡?_, isSome, _otherwise_, firstSaid, Placed, passed}
 use Rattle.model.specs.Bytes.{_!_, part}
-use Rattle.model.specs.Item.{Item, isFine, found, itemsOf}
+use Rattle.model.specs.Item.{Item, isFine, itemsOf}
 use Rattle.model.specs.Seek.{Entry, seekOf, startPoint, stopPoint, phraseOf, orderList, orderPlace, pointsSaid}
 use Rattle.model.specs.Points.{isAddress, pointsHold, isPosition, lettersNamed, orderHolds}
 use Rattle.model.specs.Order.{phraseSection, lettersPlayed, phraseOrder, orderOf}
@@ -22,8 +22,8 @@ use Rattle.model.specs.declared.Points.{Points}
 use Rattle.model.proofs.Tests.{by-test, if-true, if-false}
 use Rattle.seek.proofs.Standing.{allEntries}
 use Rattle.seek.proofs.Naming.{Ordered, ordered}
-use Rattle.reading.proofs.OneTop.{then-fine}
 use Rattle.playing.specs.Performing.{entriesSaid, Ready, lastPosition, Listed, letterSection, Named}
+use Rattle.playing.proofs.Said.{both-pass}
 use Rattle.playing.proofs.Streams.{start-holds, stop-holds, said-or, some-said, none-said}
 
 -- every letter of a list that passed its rule has a phrase
@@ -51,12 +51,6 @@ part-of-part s place many from size h =
 
 part-at : (s : List ℕ) (from size i : ℕ) → i < size → part s from size ! i ≡ s ! (from + i)
 part-at s from size i h = getD-take size (drop from s) i 0 h ∙ getD-drop from s i 0
-
--- a check after another, where both pass
-both-pass : (a b : Checked (Unit {0})) → (a >> b) ≡ passed → (a ≡ passed) × (b ≡ passed)
-unfolding _>>_
-both-pass (fine u) b e = (refl, e)
-both-pass (refused n p) b e = let z : _≡_ {A = ℕ} 0 1 = cc in absurd (omega arith)
 
 some-list : (o : Option (List ℕ)) → isSome o ≡ true → o ≡ some (o otherwise [])
 unfolding isSome _otherwise_

@@ -1,13 +1,13 @@
 -- THE PHRASE OF A LETTER in a track that keeps the rules: both its ends are addresses, in their order, so that its span can be walked.
 use Prim.Native.Nat.{ℕ, _<_, _≤_}
 use mathlib.Core.Bool.{Bool, true, false, false≢true}
-use mathlib.Core.List.{List, [], _∷_}
+use mathlib.Core.List.{List}
 use mathlib.Core.Option.{Option, none, some}
 use mathlib.Core.Path.{_≡_, refl, sym, _∙_, ap, subst}
 use lib.ListN.{length}
 use native.Mathlib.Omega.{arith}
 use borrow.Author.Tests.{eqb-false, ltb-false, not-true}
-use Rattle.model.specs.Words.{_<?_, _≡?_, isSome, _otherwise_, _orElse_, firstSaid, Placed, Checked, Checked.fine, Checked.refused, passed, _>>_, allPass}
+use Rattle.model.specs.Words.{_<?_, _≡?_, isSome, _otherwise_, firstSaid, Placed, passed}
 use Rattle.model.specs.Item.{isFine, found, itemsOf}
 use Rattle.model.specs.Seek.{Entry, Entry.start, Entry.stop, Entry.phrase, Entry.order, seekOf, Addresses, startPoint, phraseIn, phraseOf, foundPhrase}
 use Rattle.model.specs.Points.{isAddress, timeOf, isSpan, isPosition, pointHolds, pointsHold}
@@ -19,29 +19,8 @@ use Rattle.model.specs.declared.FoundPhrase.{FoundPhrase}
 use Rattle.model.specs.declared.FoundPhrase.the-variants.{Between, Nowhere}
 use Rattle.sections.specs.Spans.{Items, spanOf}
 use Rattle.model.proofs.Tests.{by-test, if-true, if-false, and-left, and-right}
+use Rattle.playing.proofs.Said.{said-by, both-pass, kept}
 use Rattle.playing.specs.Performing.{Ready, entriesSaid, letterSection, letterSpan}
-
--- of things that all pass a check, the first that says something passes it too
-abbrev SaidAndPassed : {A B : Type 0} → (A → Checked (Unit {0})) → (A → Option B) → B → Type 0
-SaidAndPassed {A} check says b = (a : A) × (says a ≡ some b) × (check a ≡ passed)
-
-said-passes : {A B : Type 0} (check : A → Checked (Unit {0})) (says : A → Option B) (list : List A) (b : B)
-    → allPass check list ≡ passed → firstSaid says list ≡ some b → SaidAndPassed check says b
-unfolding allPass firstSaid _>>_ _orElse_
-said-passes check says [] b all said = let z : _≡_ {A = ℕ} 0 1 = cc in absurd (omega arith)
-said-passes {A} {B} check says (a ∷ rest) b all said = go (check a) refl (says a) refl all said (said-passes check says rest b)
-  where
-    go : (c : Checked (Unit {0})) → check a ≡ c → (o : Option B) → says a ≡ o → (c >> allPass check rest) ≡ passed
-        → (o orElse firstSaid says rest) ≡ some b → (allPass check rest ≡ passed → firstSaid says rest ≡ some b → SaidAndPassed check says b)
-        → SaidAndPassed check says b
-    go (fine u) h none g passes finds later = later passes finds
-    go (fine u) h (some x) g passes finds later = (a, g ∙ finds, h)
-    go (refused number place) h o g passes finds later = let z : _≡_ {A = ℕ} 0 1 = cc in absurd (omega arith)
-
-first-passes : (one other : Checked (Unit {0})) → (one >> other) ≡ passed → one ≡ passed
-unfolding _>>_
-first-passes (fine u) other e = refl
-first-passes (refused number place) other e = let z : _≡_ {A = ℕ} 0 1 = cc in absurd (omega arith)
 
 -- an entry that says a letter's phrase and keeps the rules is a span
 entry-spans : (address point : ℕ → Bool) (started letter : ℕ) (entry : Entry) (addresses : Addresses) → phraseIn letter entry ≡ some addresses
@@ -65,11 +44,10 @@ phrase-spans : (items : Items) (size letter : ℕ) (entries : List (Placed Entry
     → phraseOf letter entries ≡ some addresses → isSpan (isAddress items size) (addresses .from) (addresses .to) ≡ true
 unfolding pointsOf pointsHold phraseOf
 phrase-spans items size letter entries addresses holds is =
-    let p = said-passes _ _ entries addresses (first-passes _ _ holds) is in
+    let p = said-by _ _ entries addresses (both-pass _ _ holds .0) is in
     let entry = p .0 .what in
     let started = startPoint entries otherwise 0 in
-    let right = by-test (pointHolds (isAddress items size) (isPosition entries) started entry) (λ t. t)
-    (λ t. let q = sym (if-false _ _ _ t) ∙ p .2 in let z : _≡_ {A = ℕ} 0 1 = cc in absurd (omega arith)) in
+    let right = kept (pointHolds (isAddress items size) (isPosition entries) started entry) (p .0 .place) (p .2) in
     entry-spans (isAddress items size) (isPosition entries) started letter entry addresses (p .1) right
 
 -- what is found is the phrase of the letter

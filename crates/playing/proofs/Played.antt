@@ -1,17 +1,16 @@
 -- What is played, from its rows: 15 where a table has too little room, and otherwise the answer and the two tables. For a stream, whose
 -- rows are those of one span.
 use Prim.Native.Nat.{ℕ, _+_, _<_, _≤_, min}
-use mathlib.Core.Path.{_≡_, refl, sym, _∙_, ap, ap₂, subst}
-use mathlib.Core.Bool.{Bool, true, false}
+use mathlib.Core.Path.{_≡_, refl, sym, _∙_, ap, ap₂}
+use mathlib.Core.Bool.{false}
 use mathlib.Core.List.{List, [], _∷_, _++_, map, append-nil}
-use mathlib.Core.Option.{Option, some}
 use lib.ListN.{length, drop, length-map}
 use lib.Seq.{sets, sets-eq}
 use native.Mathlib.Nat.{zero-add, add-zero}
 use native.Mathlib.Omega.{arith}
 use borrow.Author.Tests.{lt-ltb, le-ltb}
-use Rattle.model.specs.Words.{if_then_else_, sum, _otherwise_, Placed, Checked, Checked.fine, Checked.refused}
-use Rattle.model.specs.Item.{Item, isFine, itemsOf}
+use Rattle.model.specs.Words.{sum, _otherwise_, Checked, Checked.fine, Checked.refused, if_then_else_}
+use Rattle.model.specs.Item.{itemsOf}
 use Rattle.model.specs.Seek.{startPoint, stopPoint}
 use Rattle.model.specs.Play.{At, Section, Tune, onsetsAfter, sounding, playedFrom, tuneOf}
 use Rattle.model.specs.Word.{isMessage, wordOf}

@@ -1,14 +1,14 @@
 -- The track that a row names, and what is played of it: 16, 17 and 15, and the tables that a play leaves.
-use Prim.Native.Nat.{ℕ, _+_, _-_, _<_, _≤_, min}
-use mathlib.Core.Path.{_≡_, refl, sym, _∙_, ap, ap₂, subst}
-use mathlib.Core.Bool.{Bool, true, false≢true}
+use Prim.Native.Nat.{ℕ, _+_, _-_, _≤_}
+use mathlib.Core.Path.{_≡_, sym, _∙_, ap, subst}
+use mathlib.Core.Bool.{true}
 use mathlib.Core.List.{List}
-use mathlib.Core.Option.{Option, none, some}
+use mathlib.Core.Option.{Option, some}
 use lib.ListN.{length, take, drop}
 use native.Mathlib.Omega.{arith}
 use mir.Val.{Fits}
 use mir.Syntax.{w64}
-use Rattle.model.specs.Words.{Checked, Checked.fine, Checked.refused}
+use Rattle.model.specs.Words.{Checked, Checked.fine}
 use Rattle.model.specs.Bytes.{part}
 use Rattle.model.specs.Item.{isFine}
 use Rattle.model.specs.Track.{Track, trackOf}

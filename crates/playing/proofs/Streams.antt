@@ -1,26 +1,27 @@
 -- A stream: what its seek body says, and that its points are addresses.
-use Prim.Native.Nat.{ℕ, _+_, _-_, _<_, _≤_}
-use mathlib.Core.Path.{_≡_, refl, sym, _∙_, ap, subst}
+use Prim.Native.Nat.{ℕ, _-_, _<_, _≤_}
+use mathlib.Core.Path.{_≡_, refl, sym, _∙_, ap}
 use mathlib.Core.Bool.{Bool, true, false, not, false≢true}
-use mathlib.Core.List.{List, [], _∷_}
+use mathlib.Core.List.{List}
 use mathlib.Core.Option.{Option, none, some}
 use lib.ListN.{length}
 use native.Mathlib.Omega.{arith}
 use borrow.Author.Tests.{ltb-false, eq-eqb, ne-eqb, not-true}
-use Rattle.model.specs.Words.{if_then_else_, _and_, _or_, _<?_, _≡?_, any, isSome, _otherwise_, _orElse_, firstSaid, Placed, Checked, Checked.fine, Checked.refused, passed, _>>_, allPass}
-use Rattle.model.specs.Item.{Item, isFine, found, bodyOf, itemsOf, itemStep}
+use Rattle.model.specs.Words.{_and_, _<?_, isSome, _otherwise_, firstSaid, Placed, passed, if_then_else_}
+use Rattle.model.specs.Item.{Item, isFine, found, bodyOf, itemsOf}
 use Rattle.model.specs.Seek.{Entry, Entry.start, Entry.stop, Entry.phrase, Entry.order, seekOf, startIn, stopIn, startPoint, stopPoint, orderList, orderPlace, pointsSaid}
-use Rattle.model.specs.Points.{isAddress, timeOf, pointHolds, pointsHold}
-use Rattle.model.specs.Order.{between, streamSection}
+use Rattle.model.specs.Points.{isAddress, pointHolds, pointsHold}
+use Rattle.model.specs.Order.{streamSection}
 use Rattle.model.specs.Track.{pointWidth, pointsOf}
 use Rattle.model.specs.declared.Voice.{Voice}
 use Rattle.model.specs.declared.Event.{Event}
 use Rattle.model.specs.declared.Points.{Points}
 use Rattle.model.specs.declared.Span.{Span}
-use Rattle.model.proofs.Tests.{by-test, and-left, and-right, if-true}
+use Rattle.model.proofs.Tests.{and-left, and-right}
 use Rattle.items.proofs.Addresses.{one-there, reads-to-items}
 use Rattle.items.proofs.Standing.{body-stands}
 use Rattle.sections.specs.Spans.{spanOf, spanBetween, spanFrom}
+use Rattle.playing.proofs.Said.{said-by, kept}
 use Rattle.playing.specs.Performing.{entriesSaid, Formed, Ready}
 
 -- WHAT A SEEK BODY SAYS
@@ -42,29 +43,6 @@ module _ (phrases : Bool) (seek : List ℕ) where
 pub ruleset saying = (points-none, points-formed, points-some)
 
 -- THE POINTS OF A STREAM
-
--- what an entry says that passed its check
-first-by : {A B : Type 0} (test : A → Checked (Unit {0})) (says : A → Option B) (entry : A) (entries : List A) (b : B)
-    → (allPass test entries ≡ passed → firstSaid says entries ≡ some b → (one : A) × (says one ≡ some b) × (test one ≡ passed))
-    → (c : Checked (Unit {0})) → test entry ≡ c → (o : Option B) → says entry ≡ o → (c >> allPass test entries) ≡ passed
-    → (o orElse firstSaid says entries) ≡ some b → (one : A) × (says one ≡ some b) × (test one ≡ passed)
-unfolding _>>_ _orElse_
-first-by test says entry entries b others (fine u) p none q rest k = others rest k
-first-by test says entry entries b others (fine u) p (some d) q rest k = (entry, q ∙ k, p)
-first-by test says entry entries b others (refused n place) p o q rest k = let z : _≡_ {A = ℕ} 0 1 = cc in absurd (omega arith)
-
-pub said-by : {A B : Type 0} (test : A → Checked (Unit {0})) (says : A → Option B) (entries : List A) (b : B) → allPass test entries ≡ passed
-    → firstSaid says entries ≡ some b → (entry : A) × (says entry ≡ some b) × (test entry ≡ passed)
-unfolding allPass firstSaid
-said-by test says [] b all e = let z : _≡_ {A = ℕ} 0 1 = cc in absurd (omega arith)
-said-by test says (entry ∷ entries) b all e =
-    first-by test says entry entries b (said-by test says entries b) (test entry) refl (says entry) refl all e
-
--- an entry that keeps the rules
-kept : (holds : Bool) (place : ℕ) → (if holds then passed else refused 13 place) ≡ passed → holds ≡ true
-unfolding if_then_else_
-kept true place e = refl
-kept false place e = let z : _≡_ {A = ℕ} 0 1 = cc in absurd (omega arith)
 
 start-is : (entry : Entry) (value : ℕ) → startIn entry ≡ some value → entry ≡ start value
 unfolding startIn

@@ -3,14 +3,13 @@
 use Prim.Native.Nat.{ℕ, _+_, _-_, _≤_, min}
 use mathlib.Core.Path.{_≡_, refl, sym, _∙_, ap, ap₂, subst}
 use mathlib.Core.Bool.{Bool, true, false, false≢true}
-use mathlib.Core.List.{List, [], _∷_, _++_, map, append-nil}
+use mathlib.Core.List.{List, [], _∷_, map, append-nil}
 use mathlib.Core.Option.{Option, none, some}
 use lib.ListN.{length}
-use native.Mathlib.Nat.{sub-zero, zero-add}
 use native.Mathlib.Omega.{arith}
 use borrow.Author.Tests.{le-ltb}
-use Rattle.model.specs.Words.{if_then_else_, keep, sum, _otherwise_, Placed, Checked, Checked.fine, Checked.refused}
-use Rattle.model.specs.Item.{Item, lasting}
+use Rattle.model.specs.Words.{keep, sum, _otherwise_, Placed, Checked, Checked.fine, Checked.refused, if_then_else_}
+use Rattle.model.specs.Item.{lasting}
 use Rattle.model.specs.Seek.{Entry, startPoint, stopPoint}
 use Rattle.model.specs.Points.{timeOf}
 use Rattle.model.specs.Play.{At, Section, Tune, onsetsAfter, messagesOf, sounding, playedFrom, tuneOf}

@@ -14,7 +14,7 @@ use Rattle.model.specs.Play.{At, Section, Tune, tuneOf}
 use Rattle.model.specs.Word.{isMessage}
 use Rattle.model.specs.Order.{phraseSection, orderOf, playOrder}
 use Rattle.model.specs.Track.{Track, pointWidth, pointsOf}
-use Rattle.model.specs.File.{File, contentsOf, trackAt}
+use Rattle.model.specs.File.{File, trackAt}
 use Rattle.model.specs.Answer.{named}
 use Rattle.model.specs.declared.Voice.{Voice}
 use Rattle.model.specs.declared.Event.{Event}

@@ -55,7 +55,7 @@ module _ (voice : Voice) (s : List ℕ) where
         omega arith
 
     module _ (fine : isFine (bodyOf voice s) ≡ true) (r : Span) where
-      section-small : (section : Section) → r ≡ spanOf (itemsOf voice s) (length s) section → section .lasts ≤ lasting (itemsOf voice s) → Small (length s) r
+      pub section-small : (section : Section) → r ≡ spanOf (itemsOf voice s) (length s) section → section .lasts ≤ lasting (itemsOf voice s) → Small (length s) r
       unfolding spanOf
       section-small section e h =
           let st = body-stands voice s (itemsOf voice s) (reads-to-items voice s fine) in
