@@ -1,2 +1,4 @@
 pub mod Joining
 pub mod Waiting
+pub mod Fitting
+pub mod Ahead
