@@ -2,3 +2,4 @@ pub mod Joining
 pub mod Waiting
 pub mod Fitting
 pub mod Ahead
+pub mod Telling

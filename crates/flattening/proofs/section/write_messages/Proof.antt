@@ -1,118 +1,93 @@
+use borrow.Author.Needs.{needs}
+use Prim.Native.Nat.{_-_}
+use lib.ListN.{length}
+use native.Mathlib.Omega.{arith}
+use Rattle.flattening.proofs.Telling.{Telling, tell-starts, tells, tell-ends}
 use Rattle.flattening.proofs.section.write_messages.Statement.{statement}
 use Rattle.flattening.proofs.section.write_messages.Tie as tie
-use Rattle.flattening.proofs.section.write_messages.Reads as reads
-use Rattle.flattening.proofs.section.write_messages.Lts as lts
-use Rattle.flattening.proofs.section.write_message.Reads as write-message-reads
-use Rattle.items.proofs.read_item.Reads as read-item-reads
-use Rattle.sections.proofs.is_message.Reads as is-message-reads
 
 abbrev Inv-loop : tie.InvT-loop
 Inv-loop voice body span before past out₀ at here₀ last₀ count₀ place₀ time₀ out here last count place time =
-    ?
+    Telling voice body span before past out₀ at out here last count place time
 
 abbrev μ-loop : tie.MeasureT-loop
-μ-loop voice body span before past out₀ at here₀ last₀ count₀ place₀ time₀ out here last count place time =
-    ?
+μ-loop voice body span before past out₀ at here₀ last₀ count₀ place₀ time₀ out here last count place time = length body - place
 
--- src/section.rt:66:5
 loop-holds : tie.Need-loop-holds Inv-loop μ-loop
-loop-holds c = ?
+loop-holds c =
+    tell-starts _ _ _ _ _ _ _ (λ k. omega (arith, c .before .shared-slice-known .given k)) (search needs) (search needs) (search needs) (search needs) (search needs) (search needs)
 
--- src/section.rt:68:13
 same-length : tie.Need-same-length Inv-loop μ-loop
-same-length c = ?
+same-length c = search (needs, tells)
 
--- src/section.rt:68:13
 returns : tie.Need-returns Inv-loop μ-loop
-returns c = ?
+returns c = (search tell-ends, (search tell-ends, search tell-ends))
 
--- src/section.rt:73:15
 read-item-requires : tie.Need-read-item-requires Inv-loop μ-loop
-read-item-requires c κs = ?
+read-item-requires c κs = search (needs, tells)
 
--- src/section.rt:75:17
 enum-known-duration : tie.Need-enum-known-duration Inv-loop μ-loop
-enum-known-duration c = ?
+enum-known-duration c = search (needs, tells)
 
--- src/section.rt:80:25
 cast-time : tie.Need-cast-time Inv-loop μ-loop
-cast-time c = ?
+cast-time c = search (needs, tells)
 
--- src/section.rt:80:17
 add-time : tie.Need-add-time Inv-loop μ-loop
-add-time c = ?
+add-time c = search (needs, tells)
 
--- src/section.rt:81:20
 is-message-requires : tie.Need-is-message-requires Inv-loop μ-loop
-is-message-requires c κs = ?
+is-message-requires c κs = search (needs, tells)
 
--- src/section.rt:82:42
 sub-step : tie.Need-sub-step Inv-loop μ-loop
-sub-step c = ?
+sub-step c = search (needs, tells)
 
--- src/section.rt:82:32
 add-step : tie.Need-add-step Inv-loop μ-loop
-add-step c = ?
+add-step c = search (needs, tells)
 
--- src/section.rt:83:55
 sub-write-message : tie.Need-sub-write-message Inv-loop μ-loop
-sub-write-message c = ?
+sub-write-message c = search (needs, tells)
 
--- src/section.rt:83:21
 write-message-requires : tie.Need-write-message-requires Inv-loop μ-loop
-write-message-requires c κs = ?
+write-message-requires c κs = (search tells, search tells)
 
--- src/section.rt:85:21
 sub-count : tie.Need-sub-count Inv-loop μ-loop
-sub-count c = ?
+sub-count c = search (needs, tells)
 
--- src/section.rt:66:5
 loop-less : tie.Need-loop-less Inv-loop μ-loop
-loop-less c = ?
+loop-less c = search (needs, tells)
 
--- src/section.rt:66:5
 loop-again : tie.Need-loop-again Inv-loop μ-loop
-loop-again c = ?
+loop-again c = search (needs, tells)
 
--- src/section.rt:66:5
 loop-less-2 : tie.Need-loop-less-2 Inv-loop μ-loop
-loop-less-2 c = ?
+loop-less-2 c = search (needs, tells)
 
--- src/section.rt:66:5
 loop-again-2 : tie.Need-loop-again-2 Inv-loop μ-loop
-loop-again-2 c = ?
+loop-again-2 c = search (needs, tells)
 
--- src/section.rt:88:33
 enum-known-next : tie.Need-enum-known-next Inv-loop μ-loop
-enum-known-next c = ?
+enum-known-next c = search (needs, tells)
 
--- src/section.rt:66:5
 loop-less-3 : tie.Need-loop-less-3 Inv-loop μ-loop
-loop-less-3 c = ?
+loop-less-3 c = search (needs, tells)
 
--- src/section.rt:66:5
 loop-again-3 : tie.Need-loop-again-3 Inv-loop μ-loop
-loop-again-3 c = ?
+loop-again-3 c = search (needs, tells)
 
--- src/section.rt:95:17
 enum-told : tie.Need-enum-told Inv-loop μ-loop
-enum-told c = ?
+enum-told c = search (needs, tells)
 
--- src/section.rt:95:17
 same-length-2 : tie.Need-same-length-2 Inv-loop μ-loop
-same-length-2 c = ?
+same-length-2 c = search (needs, tells)
 
--- src/section.rt:95:17
 returns-2 : tie.Need-returns-2 Inv-loop μ-loop
-returns-2 c = ?
+returns-2 c = (search tell-ends, (search tell-ends, search tell-ends))
 
--- src/section.rt:42:1
 same-length-3 : tie.Need-same-length-3 Inv-loop μ-loop
-same-length-3 c = ?
+same-length-3 c = search (needs, tells)
 
--- src/section.rt:42:1
 returns-3 : tie.Need-returns-3 Inv-loop μ-loop
-returns-3 c = ?
+returns-3 c = (search tell-ends, (search tell-ends, search tell-ends))
 
 pub write-messages-spec : {M : Type 1} → statement M
 write-messages-spec =
