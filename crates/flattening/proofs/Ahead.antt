@@ -19,7 +19,7 @@ use Rattle.items.proofs.Addresses.{stands-ahead, reads-to-items}
 use Rattle.items.proofs.Standing.{body-stands}
 use Rattle.sections.specs.Spans.{Items, since, spanOf, spanRows, Playable}
 use Rattle.sections.proofs.InWords.{ItemInWord, item-in-word}
-use Rattle.sections.proofs.Places.{Standing, first-stands, from-since, past-small}
+use Rattle.sections.proofs.Places.{Standing, stands-within, first-stands, from-since, past-small}
 use Rattle.sections.proofs.Rowing.{next-rows, NotBefore, none-left, since-not-before, later-not-before}
 use Rattle.flattening.proofs.Fitting.{read-fits}
 
@@ -58,6 +58,12 @@ module _ (voice : Voice) (s : List ℕ) (bytes : (k : ℕ) → s ! k < 256) (sma
   span-begins span playable = subst Begins (sym (playable .is)) (section-begins (playable .section))
 
 module _ (voice : Voice) (s : List ℕ) (start place time : ℕ) (a : Ahead voice s start place time) where
+  pub in-time : time ≤ 1082081407
+  in-time = omega (arith, a .short, a .small, stands-within voice s place (a .rest) (a .stands))
+
+  pub in-place : place ≤ 65536
+  in-place = omega (arith, a .small, stands-within voice s place (a .rest) (a .stands))
+
   -- nothing is left past the end
   pub none-ahead : (before count : ℕ) → length s ≤ place → next-rows before start count time (a .rest) ≡ []
   none-ahead before count past = go (a .rest) (a .stands)
@@ -99,11 +105,7 @@ module _ (voice : Voice) (s : List ℕ) (start place time : ℕ) (a : Ahead voic
       unfolding itemMet
       timed-nears = stands-ahead voice s place _ next (read-here (Timed duration event next) e) .0
 
-      pub timed-within : next ≤ length s
-      unfolding itemMet
-      timed-within = stands-ahead voice s place _ next (read-here (Timed duration event next) e) .1
-
-      pub timed-short : duration ≤ 16511
+      timed-short : duration ≤ 16511
       timed-short = subst ItemInWord (sym is ∙ e) (item-in-word s (a .bytes) (a .small) voice place) .0
 
       timed-opens : Opened (timed duration event) next

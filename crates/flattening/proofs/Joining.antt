@@ -50,7 +50,7 @@ pub part-first : (body : List ℕ) (past step : ℕ) (event : Event) (rows : Lis
 unfolding partBytes told messageBytes timedBytes itemBytes
 part-first body past step event rows = first-bytes past (record { step = step; event = contentOf body event }) (told body rows)
 
-first-length : (past : ℕ) (at : At Content) (messages : List (At Content))
+pub first-length : (past : ℕ) (at : At Content) (messages : List (At Content))
     → length (bytesOf handyPhone (plainPart past (at ∷ messages)))
     ≡ gapSize (at .step - past) + (length (contentBytes (at .event)) + length (bytesOf handyPhone (plainPart (at .step) messages)))
 unfolding gapSize

@@ -3,3 +3,5 @@ pub mod Waiting
 pub mod Fitting
 pub mod Ahead
 pub mod Telling
+pub mod Shapes
+pub mod Shaping

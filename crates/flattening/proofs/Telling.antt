@@ -21,11 +21,10 @@ use Rattle.model.specs.declared.ReadItem.the-variants.{Timed, EndMark, Refused}
 use Rattle.model.specs.declared.Span.{Span}
 use Rattle.model.proofs.Stores.{sets-append}
 use Rattle.sections.specs.Spans.{spanRows, Playable}
-use Rattle.sections.proofs.Places.{stands-within}
 use Rattle.sections.proofs.Rowing.{next-rows, message-next, nop-next, mark-next}
 use Rattle.flattening.specs.Parts.{plainPart, lastStep, told, partBytes, partLast, messageBytes}
 use Rattle.flattening.proofs.Joining.{part-first}
-use Rattle.flattening.proofs.Ahead.{Ahead, span-begins, none-ahead, timed-fits, timed-nears, timed-late, timed-onward, mark-nears, mark-onward, never-refused}
+use Rattle.flattening.proofs.Ahead.{Ahead, span-begins, in-time, none-ahead, timed-fits, timed-nears, timed-late, timed-onward, mark-nears, mark-onward, never-refused}
 
 -- one message: the waits, and its item after them
 module _ (s : List ℕ) (gap : ℕ) (event : Event) where
@@ -82,10 +81,6 @@ pub record Telling (voice : Voice) (s : List ℕ) (span : Span) (before past : �
   pub whole : sets out here (partBytes s last (next-rows before (span .start) count time (ahead .rest)))
       ≡ sets l at (partBytes s past (spanRows (itemsOf voice s) span before))
 
--- a time within a body
-within : (voice : Voice) (s : List ℕ) (start place time : ℕ) → Ahead voice s start place time → time ≤ 1082081407
-within voice s start place time a = omega (arith, a .short, a .small, stands-within voice s place (a .rest) (a .stands))
-
 module _ (voice : Voice) (s : List ℕ) (span : Span) (before past : ℕ) (l : List ℕ) (at : ℕ) where
   abbrev all : List (At Event)
   all = spanRows (itemsOf voice s) span before
@@ -98,7 +93,7 @@ module _ (voice : Voice) (s : List ℕ) (span : Span) (before past : ℕ) (l : L
       let rows = sym (begun .1 before) in
       record {
         ahead = begun .0;
-        short = within voice s (span .start) (span .first) (span .past) (begun .0);
+        short = in-time voice s (span .start) (span .first) (span .past) (begun .0);
         low = low;
         early = omega arith;
         same = refl;
@@ -158,7 +153,7 @@ module _ (voice : Voice) (s : List ℕ) (span : Span) (before past : ℕ) (l : L
       silent next later a on same =
           record {
             ahead = a;
-            short = within voice s (span .start) next later a;
+            short = in-time voice s (span .start) next later a;
             low = r .low;
             early = omega (arith, r .early);
             same = r .same;
@@ -221,7 +216,7 @@ module _ (voice : Voice) (s : List ℕ) (span : Span) (before past : ℕ) (l : L
               rw (w, n, first-bytes) (sets-append out here (messageBytes s (step - last) event) (partBytes s step later)) in
               record {
                 ahead = onward .0;
-                short = within voice s (span .start) next (time + duration) (onward .0);
+                short = in-time voice s (span .start) next (time + duration) (onward .0);
                 low = r .low;
                 early = omega arith;
                 same = k ∙ r .same;

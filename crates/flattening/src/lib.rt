@@ -7,4 +7,5 @@ pub use gaps::left_of;
 pub use gaps::rest_size;
 pub use gaps::write_rest;
 pub use gaps::write_waits;
+pub use section::shape_of;
 pub use section::write_messages;
