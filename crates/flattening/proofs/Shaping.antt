@@ -1,13 +1,12 @@
 -- The messages of a span, counted one after the other: the invariant of `shape_of`'s loop, that what is still to be counted makes the
 -- whole, and what each turn and each way out makes of it.
 use Prim.Native.Nat.{ℕ, suc, _+_, _-_, _*_, _<_, _≤_}
-use mathlib.Core.Bool.{Bool, true, false, not}
+use mathlib.Core.Bool.{Bool, true, false}
 use mathlib.Core.List.{List, [], _∷_}
 use mathlib.Core.Path.{_≡_, refl, sym, _∙_, ap}
 use lib.ListN.{length}
 use native.Mathlib.Nat.{zero-add}
 use native.Mathlib.Omega.{arith}
-use borrow.Author.Tests.{not-true, not-false}
 use Rattle.model.specs.Words.{if_then_else_}
 use Rattle.model.specs.Bytes.{_!_}
 use Rattle.model.specs.Item.{Item.timed, Item.endMark, itemAt, bodyOf, isFine, itemsOf}
@@ -30,18 +29,17 @@ use Rattle.flattening.proofs.Ahead.{Ahead, span-begins, in-time, in-pla
 use Rattle.flattening.proofs.Shapes.{outlined, outline-shapes}
 
 -- one message more
-module _ (outline : Outline) (step size : ℕ) where
-  pub joined-first : not (outline .heard) ≡ true → record { heard = true; lead = step; bytes = size; last = step } ≡ joined outline step size
+module _ (outline : Outline) (step size found : ℕ) where
+  pub joined-first : outline .heard ≡ false → found ≡ size → record { heard = true; lead = step; bytes = found; last = step } ≡ joined outline step size
   unfolding joined if_then_else_
-  joined-first h = let silent = not-true (outline .heard) h in simp silent
+  joined-first silent p = simp silent (ap (λ (n : ℕ). record { heard = true; lead = step; bytes = n; last = step }) p)
 
-  pub joined-next : (gap : ℕ) → not (outline .heard) ≡ false → gap ≡ gapSize (step - outline .last)
-      → record { heard = true; lead = outline .lead; bytes = outline .bytes + (gap + size); last = step } ≡ joined outline step size
+  pub joined-next : (gap : ℕ) → outline .heard ≡ true → found ≡ size → gap ≡ gapSize (step - outline .last)
+      → record { heard = true; lead = outline .lead; bytes = outline .bytes + (gap + found); last = step } ≡ joined outline step size
   unfolding joined if_then_else_
-  joined-next gap h e =
-      let loud = not-false (outline .heard) h in
-      simp loud (ap (λ (n : ℕ). record { heard = true; lead = outline .lead; bytes = outline .bytes + (n + size); last = step }) e)
-
+  joined-next gap loud p q =
+      let both : outline .bytes + (gap + found) ≡ outline .bytes + (gapSize (step - outline .last) + size) = omega arith in
+      simp loud (ap (λ (n : ℕ). record { heard = true; lead = outline .lead; bytes = n; last = step }) both)
 
 pub ruleset joins = (joined-first, joined-next)
 
@@ -49,9 +47,6 @@ pub shape-known : (outline : Outline) (lasts after : ℕ) → after ≡ lasts - 
     → record { heard = outline .heard; lead = outline .lead; bytes = outline .bytes; tail = after } ≡ shaped lasts outline
 unfolding shaped
 shape-known outline lasts after e = ap (λ (n : ℕ). record { heard = outline .heard; lead = outline .lead; bytes = outline .bytes; tail = n }) e
-
-pub no-time-after : (lasts step : ℕ) → lasts < step → 0 ≡ lasts - step
-no-time-after lasts step h = omega arith
 
 -- a row joined
 row-joined : (s : List ℕ) (outline : Outline) (step : ℕ) (event : Event) (rows : List (At Event))

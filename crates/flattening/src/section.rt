@@ -131,18 +131,18 @@ fn join(outline: Outline, step: u64, event: Event) -> Outline
     ensures { λ r. ⌜ r .bytes ≤ outline .bytes + (step + 260) ⌝ }
 {
     let size = event_size(event);
-    if !outline.heard {
+    if outline.heard {
         return Outline {
             heard: true,
-            lead: step,
-            bytes: size,
+            lead: outline.lead,
+            bytes: outline.bytes + (gap_size(step - outline.last) + size),
             last: step,
         };
     }
     Outline {
         heard: true,
-        lead: outline.lead,
-        bytes: outline.bytes + (gap_size(step - outline.last) + size),
+        lead: step,
+        bytes: size,
         last: step,
     }
 }

@@ -1,114 +1,90 @@
+use borrow.Author.Needs.{needs}
+use Prim.Native.Nat.{_-_}
+use lib.ListN.{length}
+use native.Mathlib.Omega.{arith}
+use Rattle.flattening.proofs.Shaping.{Shaping, shape-starts, shapes, shape-known-ends}
 use Rattle.flattening.proofs.section.shape_of.Statement.{statement}
 use Rattle.flattening.proofs.section.shape_of.Tie as tie
-use Rattle.flattening.proofs.section.shape_of.Reads as reads
-use Rattle.flattening.proofs.section.shape_of.Lts as lts
-use Rattle.flattening.proofs.section.join.Reads as join-reads
-use Rattle.flattening.proofs.section.no_message.Reads as no-message-reads
-use Rattle.flattening.proofs.section.shape_in.Reads as shape-in-reads
-use Rattle.items.proofs.read_item.Reads as read-item-reads
-use Rattle.sections.proofs.is_message.Reads as is-message-reads
 
 abbrev Inv-loop : tie.InvT-loop
-Inv-loop voice body span outline₀ count₀ place₀ time₀ outline count place time = ?
+Inv-loop voice body span outline₀ count₀ place₀ time₀ outline count place time =
+    Shaping voice body span outline count place time
 
 abbrev μ-loop : tie.MeasureT-loop
-μ-loop voice body span outline₀ count₀ place₀ time₀ outline count place time = ?
+μ-loop voice body span outline₀ count₀ place₀ time₀ outline count place time = length body - place
 
--- src/section.rt:177:9
 no-message-requires : tie.Need-no-message-requires Inv-loop μ-loop
-no-message-requires c κs = ?
+no-message-requires c κs = search (needs, shapes)
 
--- src/section.rt:181:5
 loop-holds : tie.Need-loop-holds Inv-loop μ-loop
-loop-holds c = ?
+loop-holds c =
+    shape-starts _ _ _ _ (search needs) (λ k. omega (arith, c .before .shared-slice-known .given k)) (search needs) (search needs) (search needs)
 
--- src/section.rt:183:13
 shape-in-requires : tie.Need-shape-in-requires Inv-loop μ-loop
-shape-in-requires c κs = ?
+shape-in-requires c κs = search (needs, shapes)
 
--- src/section.rt:183:13
 returns : tie.Need-returns Inv-loop μ-loop
-returns c = ?
+returns c = search shape-known-ends
 
--- src/section.rt:185:15
 read-item-requires : tie.Need-read-item-requires Inv-loop μ-loop
-read-item-requires c κs = ?
+read-item-requires c κs = search (needs, shapes)
 
--- src/section.rt:187:17
 enum-known-duration : tie.Need-enum-known-duration Inv-loop μ-loop
-enum-known-duration c = ?
+enum-known-duration c = search (needs, shapes)
 
--- src/section.rt:192:25
 cast-time : tie.Need-cast-time Inv-loop μ-loop
-cast-time c = ?
+cast-time c = search (needs, shapes)
 
--- src/section.rt:192:17
 add-time : tie.Need-add-time Inv-loop μ-loop
-add-time c = ?
+add-time c = search (needs, shapes)
 
--- src/section.rt:193:20
 is-message-requires : tie.Need-is-message-requires Inv-loop μ-loop
-is-message-requires c κs = ?
+is-message-requires c κs = search (needs, shapes)
 
--- src/section.rt:194:45
 sub-join : tie.Need-sub-join Inv-loop μ-loop
-sub-join c = ?
+sub-join c = search (needs, shapes)
 
--- src/section.rt:194:21
 join-requires : tie.Need-join-requires Inv-loop μ-loop
-join-requires c κs = ?
+join-requires c κs = (search shapes, (search shapes, search shapes))
 
--- src/section.rt:195:21
 sub-count : tie.Need-sub-count Inv-loop μ-loop
-sub-count c = ?
+sub-count c = search (needs, shapes)
 
--- src/section.rt:181:5
 loop-less : tie.Need-loop-less Inv-loop μ-loop
-loop-less c = ?
+loop-less c = search (needs, shapes)
 
--- src/section.rt:181:5
 loop-again : tie.Need-loop-again Inv-loop μ-loop
-loop-again c = ?
+loop-again c = search (needs, shapes)
 
--- src/section.rt:181:5
 loop-less-2 : tie.Need-loop-less-2 Inv-loop μ-loop
-loop-less-2 c = ?
+loop-less-2 c = search (needs, shapes)
 
--- src/section.rt:181:5
 loop-again-2 : tie.Need-loop-again-2 Inv-loop μ-loop
-loop-again-2 c = ?
+loop-again-2 c = search (needs, shapes)
 
--- src/section.rt:198:33
 enum-known-next : tie.Need-enum-known-next Inv-loop μ-loop
-enum-known-next c = ?
+enum-known-next c = search (needs, shapes)
 
--- src/section.rt:181:5
 loop-less-3 : tie.Need-loop-less-3 Inv-loop μ-loop
-loop-less-3 c = ?
+loop-less-3 c = search (needs, shapes)
 
--- src/section.rt:181:5
 loop-again-3 : tie.Need-loop-again-3 Inv-loop μ-loop
-loop-again-3 c = ?
+loop-again-3 c = search (needs, shapes)
 
--- src/section.rt:205:17
 enum-told : tie.Need-enum-told Inv-loop μ-loop
-enum-told c = ?
+enum-told c = search (needs, shapes)
 
--- src/section.rt:205:17
 shape-in-requires-2 : tie.Need-shape-in-requires-2 Inv-loop μ-loop
-shape-in-requires-2 c κs = ?
+shape-in-requires-2 c κs = search (needs, shapes)
 
--- src/section.rt:205:17
 returns-2 : tie.Need-returns-2 Inv-loop μ-loop
-returns-2 c = ?
+returns-2 c = search shape-known-ends
 
--- src/section.rt:209:5
 shape-in-requires-3 : tie.Need-shape-in-requires-3 Inv-loop μ-loop
-shape-in-requires-3 c κs = ?
+shape-in-requires-3 c κs = search (needs, shapes)
 
--- src/section.rt:171:1
 returns-3 : tie.Need-returns-3 Inv-loop μ-loop
-returns-3 c = ?
+returns-3 c = search shape-known-ends
 
 pub shape-of-spec : {M : Type 1} → statement M
 shape-of-spec =
