@@ -1,5 +1,5 @@
 -- The items of a span that are still to be walked, and what is read where they stand.
-use Prim.Native.Nat.{ℕ, _+_, _-_, _*_, _<_, _≤_}
+use Prim.Native.Nat.{ℕ, _+_, _*_, _<_, _≤_}
 use mathlib.Core.Bool.{true}
 use mathlib.Core.List.{List, [], _∷_}
 use mathlib.Core.Path.{_≡_, refl, sym, _∙_, ap, subst}
@@ -8,7 +8,7 @@ use native.Mathlib.Omega.{arith}
 use Rattle.model.specs.Words.{Placed, Step.met, Step.stuck}
 use Rattle.model.specs.Bytes.{_!_}
 use Rattle.model.specs.Item.{Item, Item.timed, Item.endMark, durationOf, itemAt, itemMet, itemStep, bodyOf, isFine, itemsOf}
-use Rattle.model.specs.Play.{At, Section}
+use Rattle.model.specs.Play.{Section}
 use Rattle.model.specs.Writing.{eventFits}
 use Rattle.model.specs.declared.Voice.{Voice}
 use Rattle.model.specs.declared.Event.{Event}

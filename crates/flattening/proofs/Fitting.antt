@@ -2,11 +2,11 @@
 use Prim.Native.Nat.{ℕ, _+_, _/_, _%_, _<_, _≤_}
 use mathlib.Core.Bool.{true, not}
 use mathlib.Core.List.{List}
-use mathlib.Core.Path.{_≡_, refl, subst}
+use mathlib.Core.Path.{_≡_, subst}
 use lib.ListN.{length}
 use native.Mathlib.Omega.{arith}
 use borrow.Author.Tests.{le-leb, leb-false, ltb-false}
-use Rattle.model.specs.Words.{_and_, _<?_, _≤?_, _≡?_}
+use Rattle.model.specs.Words.{_<?_, _≤?_, _≡?_}
 use Rattle.model.specs.Bytes.{_!_}
 use Rattle.model.specs.Duration.{durationAt, gateAt}
 use Rattle.model.specs.Event.{isSound, sound, gated, soundAt, longKind, shortKind, hasKind, isValue, longAt, shortAt, formed, controlAt, closedAt, exclusiveAt, systemAt, eventAt}

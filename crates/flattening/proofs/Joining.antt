@@ -1,7 +1,6 @@
 -- A plain form in parts: the parts one after the other are the whole, and a part's bytes are known from its shape.
-use Prim.Native.Nat.{ℕ, _+_, _-_, _≤_}
-use mathlib.Core.Bool.{true, false}
-use mathlib.Core.List.{List, [], _∷_, _++_, map, append-assoc}
+use Prim.Native.Nat.{ℕ, _+_, _-_}
+use mathlib.Core.List.{List, [], _∷_, _++_, append-assoc}
 use mathlib.Core.Path.{_≡_, refl, sym, _∙_, ap}
 use lib.ListN.{length, length-append}
 use native.Mathlib.Omega.{arith}
@@ -13,7 +12,7 @@ use Rattle.model.specs.Content.{Content, contentOf, contentBytes, handyPhone}
 use Rattle.model.specs.Writing.{timedBytes}
 use Rattle.model.specs.declared.Event.{Event}
 use Rattle.plain.proofs.PlainItems.{bytes-append}
-use Rattle.flattening.specs.Parts.{plainPart, lastStep, told, partBytes, partLast, messageBytes, gapSize}
+use Rattle.flattening.specs.Parts.{plainPart, lastStep, told, partBytes, messageBytes, gapSize}
 
 -- THE PARTS MAKE THE WHOLE: the messages of a part, then those after it
 pub plain-append : (past : ℕ) (one two : List (At Content)) (end : ℕ)

@@ -1,5 +1,5 @@
 -- WHAT A SHAPE TELLS: the bytes of a span's messages, wherever the span is played, and the time from the last of them to the span's end.
-use Prim.Native.Nat.{ℕ, _+_, _-_, _≤_}
+use Prim.Native.Nat.{ℕ, _+_, _-_}
 use mathlib.Core.Bool.{true, false}
 use mathlib.Core.List.{List, [], _∷_, _++_, map}
 use mathlib.Core.Path.{_≡_, refl, sym, _∙_, ap, subst}
@@ -14,7 +14,6 @@ use Rattle.model.specs.Plain.{bytesOf, left, waits}
 use Rattle.model.specs.Content.{Content, contentOf, contentBytes, handyPhone}
 use Rattle.model.specs.declared.Event.{Event}
 use Rattle.model.specs.declared.Outline.{Outline}
-use Rattle.model.specs.declared.Shape.{Shape}
 use Rattle.model.specs.declared.Span.{Span}
 use Rattle.sections.specs.Spans.{Items, messagesAfter, itemsFrom, counted, spanRows}
 use Rattle.flattening.specs.Parts.{plainPart, lastStep, told, partBytes, partLast, gapSize, shapeOf, spanShape, silence, joined, shaped}

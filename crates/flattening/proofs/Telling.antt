@@ -1,6 +1,6 @@
 -- The messages of a span, written one after the other: the invariant of `write_messages`' loop, that what is still to be written makes the
 -- whole, and what each turn and each way out makes of it.
-use Prim.Native.Nat.{ℕ, suc, _+_, _-_, _*_, _<_, _≤_}
+use Prim.Native.Nat.{ℕ, suc, _+_, _-_, _<_, _≤_}
 use mathlib.Core.Bool.{Bool, true, false}
 use mathlib.Core.List.{List, [], _∷_, _++_}
 use mathlib.Core.Path.{_≡_, refl, sym, _∙_, ap}

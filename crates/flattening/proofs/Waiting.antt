@@ -13,7 +13,7 @@ use Rattle.model.specs.Plain.{itemBytes, bytesOf, times, left, waits, rest}
 use Rattle.model.specs.Content.{Content, Content.nop, contentBytes, handyPhone}
 use Rattle.model.proofs.Tests.{by-test}
 use Rattle.model.proofs.Stores.{sets-append}
-use Rattle.plain.proofs.Gaps.{gap-is, left-short, waits-none, waits-more}
+use Rattle.plain.proofs.Gaps.{left-short, waits-none, waits-more}
 use Rattle.plain.proofs.PlainItems.{bytes-append}
 use Rattle.flattening.specs.Parts.{gapSize}
 

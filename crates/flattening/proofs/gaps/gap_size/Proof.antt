@@ -1,3 +1,4 @@
+-- `flattening::gaps::gap_size` meets its contract.
 use Rattle.flattening.proofs.Waiting.{sizes}
 use borrow.Author.Needs.{needs}
 use Rattle.flattening.proofs.gaps.gap_size.Statement.{statement}

@@ -1,3 +1,4 @@
+-- `flattening::gaps::left_of` meets its contract.
 use Rattle.flattening.proofs.Waiting.{sizes}
 use borrow.Author.Needs.{needs}
 use Rattle.flattening.proofs.gaps.left_of.Statement.{statement}

@@ -1,3 +1,4 @@
+-- `flattening::gaps::rest_size` meets its contract.
 use Rattle.flattening.proofs.Waiting.{sizes}
 use borrow.Author.Needs.{needs}
 use Rattle.flattening.proofs.gaps.rest_size.Statement.{statement}

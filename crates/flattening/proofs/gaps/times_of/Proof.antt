@@ -1,3 +1,4 @@
+-- `flattening::gaps::times_of` meets its contract.
 use Rattle.flattening.proofs.Waiting.{sizes}
 use borrow.Author.Needs.{needs}
 use Rattle.flattening.proofs.gaps.times_of.Statement.{statement}

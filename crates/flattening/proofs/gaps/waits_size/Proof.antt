@@ -1,3 +1,4 @@
+-- `flattening::gaps::waits_size` meets its contract.
 use Rattle.flattening.proofs.Waiting.{sizes}
 use borrow.Author.Needs.{needs}
 use Rattle.flattening.proofs.gaps.waits_size.Statement.{statement}

@@ -1,3 +1,4 @@
+-- `flattening::gaps::write_nop` meets its contract.
 use lib.ListN.{length-set}
 use native.Mathlib.Omega.{arith}
 use mathlib.Core.Path.{refl}

@@ -1,3 +1,4 @@
+-- `flattening::gaps::write_rest` meets its contract.
 use Rattle.flattening.proofs.Waiting.{rests}
 use borrow.Author.Needs.{needs}
 use Rattle.flattening.proofs.gaps.write_rest.Statement.{statement}

@@ -1,3 +1,4 @@
+-- `flattening::gaps::write_waits` meets its contract.
 use borrow.Author.Needs.{needs}
 use Rattle.flattening.proofs.Waiting.{Waiting, waiting}
 use Rattle.flattening.proofs.gaps.write_waits.Statement.{statement}

@@ -1,3 +1,4 @@
+-- `flattening::section::join` meets its contract.
 use Rattle.flattening.proofs.Shaping.{joins}
 use borrow.Author.Needs.{needs}
 use Rattle.flattening.proofs.section.join.Statement.{statement}

@@ -1,3 +1,4 @@
+-- `flattening::section::shape_in` meets its contract.
 use Rattle.flattening.proofs.Shaping.{shape-known}
 use borrow.Author.Needs.{needs}
 use Rattle.flattening.proofs.section.shape_in.Statement.{statement}

@@ -1,3 +1,4 @@
+-- `flattening::section::write_message` meets its contract.
 use Rattle.flattening.proofs.Telling.{message}
 use borrow.Author.Needs.{needs}
 use Rattle.flattening.proofs.section.write_message.Statement.{statement}

@@ -1,3 +1,4 @@
+-- `flattening::section::write_messages` meets its contract.
 use borrow.Author.Needs.{needs}
 use Prim.Native.Nat.{_-_}
 use lib.ListN.{length}
