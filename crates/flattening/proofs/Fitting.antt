@@ -122,7 +122,8 @@ module _ (s : List ℕ) where
 
     with-duration-fits : (at : ℕ) (d : ReadDuration) → ItemFits (withDuration voice s at d)
     unfolding withDuration
-    with-duration-fits at (duration.Is value next) = with-event-fits at value next (eventAt voice s next) (event-stands s bytes voice next) (event-inside voice next)
+    with-duration-fits at (duration.Is value next) =
+        with-event-fits at value next (eventAt voice s next) (event-stands s bytes voice next) (event-inside voice next)
     with-duration-fits at duration.Refused = tt
 
     item-fits : (at : ℕ) → ItemFits (itemAt voice s at)

@@ -42,7 +42,8 @@ first-bytes past at messages =
     let gap = at .step - past in
     let here : Item Content = timed (left 16511 gap) (at .event) in
     bytes-append Content handyPhone (waits handyPhone gap) (here ∷ plainPart (at .step) messages)
-    ∙ sym (append-assoc (bytesOf handyPhone (waits handyPhone gap)) (durationBytes (left 16511 gap) ++ contentBytes (at .event)) (bytesOf handyPhone (plainPart (at .step) messages)))
+    ∙ sym (append-assoc (bytesOf handyPhone (waits handyPhone gap)) (durationBytes (left 16511 gap) ++ contentBytes (at .event))
+    (bytesOf handyPhone (plainPart (at .step) messages)))
 
 pub part-first : (body : List ℕ) (past step : ℕ) (event : Event) (rows : List (At Event))
     → partBytes body past (record { step = step; event = event } ∷ rows) ≡ messageBytes body (step - past) event ++ partBytes body step rows

@@ -1,5 +1,5 @@
 -- WHAT A SHAPE TELLS: the bytes of a span's messages, wherever the span is played, and the time from the last of them to the span's end.
-use Prim.Native.Nat.{ℕ, _+_, _-_}
+use Prim.Native.Nat.{ℕ, _+_, _-_, _≤_}
 use mathlib.Core.Bool.{true, false}
 use mathlib.Core.List.{List, [], _∷_, _++_, map}
 use mathlib.Core.Path.{_≡_, refl, sym, _∙_, ap, subst}
@@ -16,6 +16,7 @@ use Rattle.model.specs.declared.Event.{Event}
 use Rattle.model.specs.declared.Outline.{Outline}
 use Rattle.model.specs.declared.Span.{Span}
 use Rattle.sections.specs.Spans.{Items, messagesAfter, itemsFrom, counted, spanRows}
+use Rattle.sections.proofs.Steps.{Rising}
 use Rattle.flattening.specs.Parts.{plainPart, lastStep, told, partBytes, partLast, gapSize, shapeOf, spanShape, silence, joined, shaped}
 use Rattle.flattening.proofs.Joining.{first-length}
 
@@ -84,11 +85,12 @@ module _ (s : List ℕ) (before start : ℕ) where
     messages-size (at ∷ messages) h =
         let step = at .step - start in
         let what = contentOf s (at .event) in
+        let others = plainPart (0 + step) (told s (rowsAt 0 messages)) in
         let same = later-part step messages ∙ ap (λ (n : ℕ). plainPart n (told s (rowsAt 0 messages))) (sym (zero-add step)) in
         let first = first-length past (record { step = before + step; event = what }) (told s (rowsAt before messages)) in
         first
         ∙ ap (λ (items : List (Item Content)). gapSize (before + step - past) + (length (contentBytes what) + length (bytesOf handyPhone items))) same
-        ∙ ap (λ (n : ℕ). gapSize (before + n - past) + (length (contentBytes what) + length (bytesOf handyPhone (plainPart (0 + step) (told s (rowsAt 0 messages)))))) (sym (zero-add step))
+        ∙ ap (λ (n : ℕ). gapSize (before + n - past) + (length (contentBytes what) + length (bytesOf handyPhone others))) (sym (zero-add step))
 
     messages-tail : (messages : List (At Event)) → shapeOf lasts (told s (rowsAt 0 messages)) .heard ≡ true
         → before + lasts - partLast s past (rowsAt before messages) ≡ shapeOf lasts (told s (rowsAt 0 messages)) .tail
@@ -124,3 +126,9 @@ module _ (s : List ℕ) (items : Items) (span : Span) (before past : ℕ) where
   pub span-silent : spanShape s items span .heard ≡ false → spanRows items span before ≡ []
   unfolding spanShape spanRows
   span-silent h = messages-silent s before (span .start) (span .lasts) past messages h
+
+-- the last of steps that never fall is at most their end
+pub last-within : (s : List ℕ) (past low high : ℕ) (rows : List (At Event)) → past ≤ low → Rising low high rows → partLast s past rows ≤ high
+unfolding partLast lastStep told
+last-within s past low high [] early rising = omega (arith, rising)
+last-within s past low high (row ∷ rows) early rising = last-within s (row .step) (row .step) high rows (omega arith) (rising .1)

@@ -16,7 +16,8 @@ abbrev μ-loop : tie.MeasureT-loop
 
 loop-holds : tie.Need-loop-holds Inv-loop μ-loop
 loop-holds c =
-    tell-starts _ _ _ _ _ _ _ (λ k. omega (arith, c .before .shared-slice-known .given k)) (search needs) (search needs) (search needs) (search needs) (search needs) (search needs)
+    tell-starts _ _ _ _ _ _ _ (λ k. omega (arith, c .before .shared-slice-known .given k))
+    (search needs) (search needs) (search needs) (search needs) (search needs) (search needs)
 
 same-length : tie.Need-same-length Inv-loop μ-loop
 same-length c = search (needs, tells)
