@@ -139,6 +139,30 @@ pub struct Span {
     pub lasts: u64,
 }
 
+// What the messages of a section come to in a plain form: whether there is one, the time before the first, the bytes from the first's event
+// to the last's, and the time after the last.
+pub struct Shape {
+    pub heard: bool,
+    pub lead: u64,
+    pub bytes: usize,
+    pub tail: u64,
+}
+
+// The messages of a section as far as they are counted: whether there is one, the step of the first, the bytes from its event on, and the
+// step of the last.
+pub struct Outline {
+    pub heard: bool,
+    pub lead: u64,
+    pub bytes: usize,
+    pub last: u64,
+}
+
+// Messages written into lent memory: the place after them, and the step of the last.
+pub struct Told {
+    pub at: usize,
+    pub past: u64,
+}
+
 // How far a body is walked: up to an address, its time, the messages before it; and of the items whose onset is not before that time the
 // place of the first, the time before it, and the messages before it.
 pub struct Reached {

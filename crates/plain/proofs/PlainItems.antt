@@ -62,7 +62,7 @@ module _ (E : Type 0) (format : Format E) where
             ∙ sym (append-assoc (waits format gap) (here ∷ later .front) (endMark ∷ []));
       }
 
-  bytes-append : (front back : List (Item E)) → bytesOf format (front ++ back) ≡ bytesOf format front ++ bytesOf format back
+  pub bytes-append : (front back : List (Item E)) → bytesOf format (front ++ back) ≡ bytesOf format front ++ bytesOf format back
   unfolding bytesOf
   bytes-append [] back = refl
   bytes-append (item ∷ front) back =

@@ -32,37 +32,37 @@ pub word-stored : (l : List ℕ) (row word r : ℕ) → word ≡ r → set l row
 word-stored l row word r e = ap (set l row) e
 
 -- the rows of the next so many messages, after a time that is past
-abbrev next-rows : ℕ → ℕ → ℕ → ℕ → Items → List (At Event)
+abbrev pub next-rows : ℕ → ℕ → ℕ → ℕ → Items → List (At Event)
 next-rows before start count time items = map (counted before start) (take count (messagesAfter time items))
 
-none-left : (before start count time : ℕ) → next-rows before start count time [] ≡ []
+pub none-left : (before start count time : ℕ) → next-rows before start count time [] ≡ []
 unfolding onsetsAfter messagesOf
 none-left before start zero time = refl
 none-left before start (suc count) time = refl
 
-message-next : (before start count time place duration : ℕ) (event : Event) (items : Items) → isMessage event ≡ true
+pub message-next : (before start count time place duration : ℕ) (event : Event) (items : Items) → isMessage event ≡ true
     → next-rows before start (suc count) time (record { place = place; what = timed duration event } ∷ items)
     ≡ record { step = before + (time + duration - start); event = event } ∷ next-rows before start count (time + duration) items
 unfolding onsetsAfter messagesOf withMessage durationOf if_then_else_
 message-next before start count time place duration event items h = simp h
 
-nop-next : (before start count time place duration : ℕ) (event : Event) (items : Items) → isMessage event ≡ false
+pub nop-next : (before start count time place duration : ℕ) (event : Event) (items : Items) → isMessage event ≡ false
     → next-rows before start count time (record { place = place; what = timed duration event } ∷ items)
     ≡ next-rows before start count (time + duration) items
 unfolding onsetsAfter messagesOf withMessage durationOf if_then_else_
 nop-next before start count time place duration event items h = simp h
 
-mark-next : (before start count time place : ℕ) (items : Items)
+pub mark-next : (before start count time place : ℕ) (items : Items)
     → next-rows before start count time (record { place = place; what = endMark } ∷ items) ≡ next-rows before start count time items
 unfolding onsetsAfter messagesOf withMessage durationOf
 mark-next before start count time place items = ap (λ (t : ℕ). next-rows before start count t items) (add-zero time)
 
 -- the first item's onset is not before a start
-abbrev NotBefore : ℕ → ℕ → Items → Type 0
+abbrev pub NotBefore : ℕ → ℕ → Items → Type 0
 NotBefore start time [] = Unit
 NotBefore start time (item ∷ items) = start ≤ time + durationOf (item .what)
 
-since-not-before : (start past : ℕ) (items : Items) → NotBefore start (since start past items .past) (since start past items .items)
+pub since-not-before : (start past : ℕ) (items : Items) → NotBefore start (since start past items .past) (since start past items .items)
 unfolding since if_then_else_
 since-not-before start past [] = tt
 since-not-before start past (item ∷ items) =
@@ -70,7 +70,7 @@ since-not-before start past (item ∷ items) =
     (λ t. simp t (since-not-before start (past + durationOf (item .what)) items))
     (λ t. simp t (ltb-false (past + durationOf (item .what)) start t))
 
-later-not-before : (start time : ℕ) (items : Items) → start ≤ time → NotBefore start time items
+pub later-not-before : (start time : ℕ) (items : Items) → start ≤ time → NotBefore start time items
 later-not-before start time [] h = tt
 later-not-before start time (item ∷ items) h = omega arith
 

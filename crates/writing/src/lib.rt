@@ -14,4 +14,6 @@ pub use event::write_event;
 pub use fits::event_fits;
 pub use item::item_size;
 pub use item::put_item;
+pub use item::write_item;
+pub use list::write_end_mark;
 pub use list::write_items;

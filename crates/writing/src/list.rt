@@ -121,7 +121,8 @@ fn check_items(voice: Voice, source: &[u8], durations: &[u32], words: &[u32], ro
     Wrote::Bytes { length: size + 4 }
 }
 
-fn write_end_mark(out: &mut [u8], at: usize) -> usize
+// Returns the place after the mark.
+pub fn write_end_mark(out: &mut [u8], at: usize) -> usize
     requires { ⌜ at + 4 ≤ length (now out) ⌝ }
     ensures { λ r. ⌜ r ≡ at + 4 ⌝ }
     ensures { λ _. ⌜ now (out .exit) ≡ sets (now (out .entry)) at (0 ∷ 0 ∷ 0 ∷ 0 ∷ []) ⌝ }

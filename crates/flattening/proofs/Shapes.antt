@@ -1,0 +1,134 @@
+-- WHAT A SHAPE TELLS: the bytes of a span's messages, wherever the span is played, and the time from the last of them to the span's end.
+use Prim.Native.Nat.{ℕ, _+_, _-_, _≤_}
+use mathlib.Core.Bool.{true, false}
+use mathlib.Core.List.{List, [], _∷_, _++_, map}
+use mathlib.Core.Path.{_≡_, refl, sym, _∙_, ap, subst}
+use lib.Dec.{T}
+use lib.ListN.{length, take}
+use native.Mathlib.Nat.{add-zero, zero-add, sub-zero}
+use native.Mathlib.Omega.{arith}
+use Rattle.model.specs.Words.{if_then_else_}
+use Rattle.model.specs.Item.{Item, Item.timed}
+use Rattle.model.specs.Play.{At}
+use Rattle.model.specs.Plain.{bytesOf, left, waits}
+use Rattle.model.specs.Content.{Content, contentOf, contentBytes, handyPhone}
+use Rattle.model.specs.declared.Event.{Event}
+use Rattle.model.specs.declared.Outline.{Outline}
+use Rattle.model.specs.declared.Span.{Span}
+use Rattle.sections.specs.Spans.{Items, messagesAfter, itemsFrom, counted, spanRows}
+use Rattle.sections.proofs.Steps.{Rising}
+use Rattle.flattening.specs.Parts.{plainPart, lastStep, told, partBytes, partLast, gapSize, shapeOf, spanShape, silence, joined, shaped}
+use Rattle.flattening.proofs.Joining.{first-length}
+
+-- rows joined to an outline one after the other
+unfoldable pub outlined : List ℕ → Outline → List (At Event) → Outline
+outlined s outline [] = outline
+outlined s outline (row ∷ rows) = outlined s (joined outline (row .step) (length (contentBytes (contentOf s (row .event))))) rows
+
+abbrev heardAt : ℕ → ℕ → ℕ → Outline
+heardAt lead last bytes = record { heard = true; lead = lead; bytes = bytes; last = last }
+
+module _ (s : List ℕ) where
+  -- after a message, a gap and a message for each row
+  heard-outlined : (lead bytes last : ℕ) (rows : List (At Event))
+      → outlined s (heardAt lead last bytes) rows
+      ≡ heardAt lead (lastStep last (told s rows)) (bytes + length (bytesOf handyPhone (plainPart last (told s rows))))
+  unfolding outlined joined told lastStep plainPart bytesOf if_then_else_
+  heard-outlined lead bytes last [] = ap (heardAt lead last) (sym (add-zero bytes))
+  heard-outlined lead bytes last (row ∷ rows) =
+      let size = length (contentBytes (contentOf s (row .event))) in
+      let gap = gapSize (row .step - last) in
+      let more = length (bytesOf handyPhone (plainPart (row .step) (told s rows))) in
+      let here : At Content = record { step = row .step; event = contentOf s (row .event) } in
+      let whole : bytes + (gap + size) + more ≡ bytes + length (bytesOf handyPhone (plainPart last (here ∷ told s rows))) =
+      omega (arith, first-length last here (told s rows)) in
+      heard-outlined lead (bytes + (gap + size)) (row .step) rows ∙ ap (heardAt lead (lastStep (row .step) (told s rows))) whole
+
+  pub outline-shapes : (lasts : ℕ) (rows : List (At Event)) → shaped lasts (outlined s silence rows) ≡ shapeOf lasts (told s rows)
+  unfolding outlined joined told shaped shapeOf if_then_else_
+  outline-shapes lasts [] = ap (λ (n : ℕ). record { heard = false; lead = 0; bytes = 0; tail = n }) (sub-zero lasts)
+  outline-shapes lasts (row ∷ rows) =
+      ap (shaped lasts) (heard-outlined (row .step) (length (contentBytes (contentOf s (row .event)))) (row .step) rows)
+
+-- where so much has been played before, all steps are later by it and no gap changes
+module _ (s : List ℕ) (before start : ℕ) where
+  abbrev rowsAt : ℕ → List (At Event) → List (At Event)
+  rowsAt from messages = map (counted from start) messages
+
+  later-part : (past : ℕ) (messages : List (At Event))
+      → plainPart (before + past) (told s (rowsAt before messages)) ≡ plainPart past (told s (rowsAt 0 messages))
+  unfolding plainPart told
+  later-part past [] = refl
+  later-part past (at ∷ messages) =
+      let step = at .step - start in
+      let what = contentOf s (at .event) in
+      let gap : before + step - (before + past) ≡ 0 + step - past = omega arith in
+      ap (λ (n : ℕ). waits handyPhone n ++ (timed (left 16511 n) what ∷ plainPart (before + step) (told s (rowsAt before messages)))) gap
+      ∙ ap (λ (items : List (Item Content)). waits handyPhone (0 + step - past) ++ (timed (left 16511 (0 + step - past)) what ∷ items))
+      (later-part step messages ∙ ap (λ (n : ℕ). plainPart n (told s (rowsAt 0 messages))) (sym (zero-add step)))
+
+  later-last : (past : ℕ) (messages : List (At Event))
+      → lastStep (before + past) (told s (rowsAt before messages)) ≡ before + lastStep past (told s (rowsAt 0 messages))
+  unfolding lastStep told
+  later-last past [] = refl
+  later-last past (at ∷ messages) =
+      let step = at .step - start in
+      later-last step messages ∙ ap (λ (n : ℕ). before + lastStep n (told s (rowsAt 0 messages))) (sym (zero-add step))
+
+  -- what the shape of the rows with nothing before tells of the rows
+  module _ (lasts past : ℕ) where
+    messages-size : (messages : List (At Event)) → shapeOf lasts (told s (rowsAt 0 messages)) .heard ≡ true
+        → length (partBytes s past (rowsAt before messages))
+        ≡ gapSize (before + shapeOf lasts (told s (rowsAt 0 messages)) .lead - past) + shapeOf lasts (told s (rowsAt 0 messages)) .bytes
+    unfolding shapeOf told partBytes
+    messages-size [] h = absurd (subst T (sym h) tt)
+    messages-size (at ∷ messages) h =
+        let step = at .step - start in
+        let what = contentOf s (at .event) in
+        let others = plainPart (0 + step) (told s (rowsAt 0 messages)) in
+        let same = later-part step messages ∙ ap (λ (n : ℕ). plainPart n (told s (rowsAt 0 messages))) (sym (zero-add step)) in
+        let first = first-length past (record { step = before + step; event = what }) (told s (rowsAt before messages)) in
+        first
+        ∙ ap (λ (items : List (Item Content)). gapSize (before + step - past) + (length (contentBytes what) + length (bytesOf handyPhone items))) same
+        ∙ ap (λ (n : ℕ). gapSize (before + n - past) + (length (contentBytes what) + length (bytesOf handyPhone others))) (sym (zero-add step))
+
+    messages-tail : (messages : List (At Event)) → shapeOf lasts (told s (rowsAt 0 messages)) .heard ≡ true
+        → before + lasts - partLast s past (rowsAt before messages) ≡ shapeOf lasts (told s (rowsAt 0 messages)) .tail
+    unfolding shapeOf told partLast lastStep
+    messages-tail [] h = absurd (subst T (sym h) tt)
+    messages-tail (at ∷ messages) h =
+        let step = at .step - start in
+        let last = later-last step messages ∙ ap (λ (n : ℕ). before + lastStep n (told s (rowsAt 0 messages))) (sym (zero-add step)) in
+        omega (arith, last)
+
+    messages-silent : (messages : List (At Event)) → shapeOf lasts (told s (rowsAt 0 messages)) .heard ≡ false → rowsAt before messages ≡ []
+    unfolding shapeOf told
+    messages-silent [] h = refl
+    messages-silent (at ∷ messages) h = absurd (subst T h tt)
+
+module _ (s : List ℕ) (items : Items) (span : Span) (before past : ℕ) where
+  abbrev messages : List (At Event)
+  messages = take (span .messages) (messagesAfter (span .past) (itemsFrom (span .first) items))
+
+  module _ (heard : spanShape s items span .heard ≡ true) where
+    -- THE SIZE of a span's messages: the gap before the first, and what the shape says
+    pub span-size : length (partBytes s past (spanRows items span before))
+        ≡ gapSize (before + spanShape s items span .lead - past) + spanShape s items span .bytes
+    unfolding spanShape spanRows
+    span-size = messages-size s before (span .start) (span .lasts) past messages heard
+
+    -- from the last message to the end of the span
+    pub span-tail : before + span .lasts - partLast s past (spanRows items span before) ≡ spanShape s items span .tail
+    unfolding spanShape spanRows
+    span-tail = messages-tail s before (span .start) (span .lasts) past messages heard
+
+  -- a span without a message
+  pub span-silent : spanShape s items span .heard ≡ false → spanRows items span before ≡ []
+  unfolding spanShape spanRows
+  span-silent h = messages-silent s before (span .start) (span .lasts) past messages h
+
+-- the last of steps that never fall is at most their end
+pub last-within : (s : List ℕ) (past low high : ℕ) (rows : List (At Event)) → past ≤ low → Rising low high rows → partLast s past rows ≤ high
+unfolding partLast lastStep told
+last-within s past low high [] early rising = omega (arith, rising)
+last-within s past low high (row ∷ rows) early rising = last-within s (row .step) (row .step) high rows (omega arith) (rising .1)

@@ -1,0 +1,42 @@
+-- `flattening::gaps::write_rest` meets its contract.
+use Rattle.flattening.proofs.Waiting.{rests}
+use borrow.Author.Needs.{needs}
+use Rattle.flattening.proofs.gaps.write_rest.Statement.{statement}
+use Rattle.flattening.proofs.gaps.write_rest.Tie as tie
+
+write-waits-requires : tie.Need-write-waits-requires
+write-waits-requires c κs = search (needs, rests)
+
+left-of-requires : tie.Need-left-of-requires
+left-of-requires c κs = search needs
+
+same-length : tie.Need-same-length
+same-length c = search needs
+
+returns : tie.Need-returns
+returns c = search (needs, rests)
+
+write-duration-requires : tie.Need-write-duration-requires
+write-duration-requires c κs = search (needs, rests)
+
+write-nop-requires : tie.Need-write-nop-requires
+write-nop-requires c κs = search (needs, rests)
+
+same-length-2 : tie.Need-same-length-2
+same-length-2 c = search needs
+
+returns-2 : tie.Need-returns-2
+returns-2 c = search (needs, rests)
+
+pub write-rest-spec : {M : Type 1} → statement M
+write-rest-spec =
+    tie.close
+    (tie.spec
+    write-waits-requires
+    left-of-requires
+    same-length
+    returns
+    write-duration-requires
+    write-nop-requires
+    same-length-2
+    returns-2)
