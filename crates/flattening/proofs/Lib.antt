@@ -5,3 +5,4 @@ pub mod Ahead
 pub mod Telling
 pub mod Shapes
 pub mod Shaping
+pub mod Ordering

@@ -1,5 +1,6 @@
 // The plain form of a section's messages: how many bytes it takes, and the bytes themselves, in lent memory.
 mod gaps;
+mod order;
 mod section;
 
 pub use gaps::gap_size;
@@ -7,5 +8,6 @@ pub use gaps::left_of;
 pub use gaps::rest_size;
 pub use gaps::write_rest;
 pub use gaps::write_waits;
+pub use order::write_order;
 pub use section::shape_of;
 pub use section::write_messages;

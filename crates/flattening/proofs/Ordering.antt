@@ -1,0 +1,217 @@
+-- The plain form of an order, span after span: the invariant of `write_order`'s loop, that what is still to be stored makes the whole, and
+-- what each turn and the end make of it.
+use Prim.Native.Nat.{ℕ, suc, _+_, _-_, _*_, _<_, _≤_}
+use mathlib.Core.Bool.{true}
+use mathlib.Core.List.{List, [], _∷_, _++_, map, map-append}
+use mathlib.Core.Path.{_≡_, refl, sym, _∙_, ap, ap₂, subst}
+use mir.Syntax.{w64}
+use mir.Val.{Fits}
+use lib.ListN.{length, drop, length-append}
+use lib.Seq.{drop-cons, drop-length, sets, length-sets}
+use native.Mathlib.Nat.{add-zero, zero-add}
+use native.Mathlib.Omega.{arith}
+use Rattle.model.specs.Bytes.{_!_}
+use Rattle.model.specs.Item.{bodyOf, isFine, itemsOf, Item, Item.endMark}
+use Rattle.model.specs.Play.{At}
+use Rattle.model.specs.Plain.{itemBytes, bytesOf, rest, plainAfter}
+use Rattle.model.specs.Content.{Content, contentOf, handyPhone}
+use Rattle.model.specs.declared.Voice.{Voice}
+use Rattle.model.specs.declared.Event.{Event}
+use Rattle.model.specs.declared.Span.{Span}
+use Rattle.model.proofs.Stores.{sets-append}
+use Rattle.sections.specs.Spans.{Items, spanRows, Playable}
+use Rattle.plain.proofs.PlainItems.{bytes-append}
+use Rattle.playing.specs.Performing.{spanAt, AllPlayable, lastsTogether, rowsTogether}
+use Rattle.flattening.specs.Parts.{told, partBytes, partLast}
+use Rattle.flattening.specs.Orders.{orderBytes, AllRise}
+use Rattle.flattening.proofs.Joining.{plain-bytes}
+use Rattle.flattening.proofs.Shapes.{last-within}
+
+-- the first letter's messages, and what is left after them
+module _ (s : List ℕ) (items : Items) (spans : List Span) (past before letter : ℕ) (letters : List ℕ) where
+  abbrev span : Span
+  span = spanAt spans letter
+
+  abbrev rows : List (At Event)
+  rows = spanRows items span before
+
+  pub order-first : orderBytes s items spans past before (letter ∷ letters)
+      ≡ partBytes s past rows ++ orderBytes s items spans (partLast s past rows) (before + span .lasts) letters
+  unfolding orderBytes rowsTogether lastsTogether partBytes partLast told
+  order-first =
+      let later = rowsTogether items spans (before + span .lasts) letters in
+      let tell : At Event → At Content = λ at. record { step = at .step; event = contentOf s (at .event) } in
+      let end : before + (span .lasts + lastsTogether spans letters) ≡ before + span .lasts + lastsTogether spans letters = omega arith in
+      ap₂ (λ (messages : List (At Content)) (e : ℕ). bytesOf handyPhone (plainAfter handyPhone past messages e)) (map-append tell rows later) end
+      ∙ plain-bytes past (map tell rows) (map tell later) (before + span .lasts + lastsTogether spans letters)
+
+-- after the last letter: the rest and the end mark
+pub order-none : (s : List ℕ) (items : Items) (spans : List Span) (past before : ℕ)
+    → orderBytes s items spans past before [] ≡ bytesOf handyPhone (rest handyPhone (before - past)) ++ (0 ∷ 0 ∷ 0 ∷ 0 ∷ [])
+unfolding orderBytes rowsTogether lastsTogether told plainAfter bytesOf itemBytes
+order-none s items spans past before =
+    ap (λ (e : ℕ). bytesOf handyPhone (rest handyPhone (e - past) ++ (endMark ∷ []))) (add-zero before)
+    ∙ bytes-append Content handyPhone (rest handyPhone (before - past)) (endMark ∷ [])
+
+module _ (voice : Voice) (s : List ℕ) (spans : List Span) (letters : List ℕ) where
+  abbrev items : Items
+  items = itemsOf voice s
+
+  abbrev whole-form : List ℕ
+  whole-form = orderBytes s (itemsOf voice s) spans 0 0 letters
+
+  pub record Storing (l out : List ℕ) (at before past i : ℕ) : Type 0 where
+    pub bytes : (k : ℕ) → letters ! k < 256
+    pub playable : AllPlayable (itemsOf voice s) (length s) spans letters
+    pub rises : AllRise (itemsOf voice s) spans letters
+    pub listed : length letters ≤ 65536
+    pub within : i ≤ length letters
+    pub early : past ≤ before
+    pub late : before + lastsTogether spans (drop i letters) ≤ 4611686018427387904
+    pub same : length out ≡ length l
+    pub room : length (orderBytes s (itemsOf voice s) spans 0 0 letters) ≤ length out
+    pub size : at + length (orderBytes s (itemsOf voice s) spans past before (drop i letters)) ≡ length (orderBytes s (itemsOf voice s) spans 0 0 letters)
+    pub whole : sets out at (orderBytes s (itemsOf voice s) spans past before (drop i letters)) ≡ sets l 0 (orderBytes s (itemsOf voice s) spans 0 0 letters)
+
+  pub store-starts : (l : List ℕ) → ((k : ℕ) → letters ! k < 256) → AllPlayable (itemsOf voice s) (length s) spans letters → AllRise (itemsOf voice s) spans letters
+      → length letters ≤ 65536 → lastsTogether spans letters ≤ 4611686018427387904 → length (orderBytes s (itemsOf voice s) spans 0 0 letters) ≤ length l
+      → Storing l l 0 0 0 0
+  store-starts l bytes playable rises listed late room =
+      record {
+        bytes = bytes;
+        playable = playable;
+        rises = rises;
+        listed = listed;
+        within = omega arith;
+        early = omega arith;
+        late = omega arith;
+        same = refl;
+        room = room;
+        size = zero-add _;
+        whole = refl;
+      }
+
+  module _ (l out : List ℕ) (at before past i : ℕ) (w : Storing l out at before past i) where
+    pub store-slot : letters ! i < 256
+    store-slot = w .bytes i
+
+    pub store-slot-fits : Fits w64 (letters ! i)
+    store-slot-fits = record { fits = omega (arith, w .bytes i) }
+
+    pub store-offset-fits : Fits w64 (letters ! i * 40)
+    store-offset-fits = record { fits = omega (arith, w .bytes i) }
+
+    pub store-early : past ≤ before
+    store-early = w .early
+
+    pub store-low : before ≤ 4611686018427387904
+    store-low = omega (arith, w .late)
+
+    -- after the last letter
+    module _ (over : length letters ≤ i) where
+      none-left : drop i letters ≡ []
+      none-left = let end : i ≡ length letters = omega (arith, w .within) in ap (λ (n : ℕ). drop n letters) end ∙ drop-length letters
+
+      left-is : orderBytes s items spans past before (drop i letters) ≡ bytesOf handyPhone (rest handyPhone (before - past)) ++ (0 ∷ 0 ∷ 0 ∷ 0 ∷ [])
+      left-is = ap (orderBytes s items spans past before) none-left ∙ order-none s items spans past before
+
+      left-long : length (orderBytes s items spans past before (drop i letters)) ≡ length (bytesOf handyPhone (rest handyPhone (before - past))) + 4
+      left-long = ap length left-is ∙ length-append (bytesOf handyPhone (rest handyPhone (before - past))) (0 ∷ 0 ∷ 0 ∷ 0 ∷ [])
+
+      pub store-rest-room : at + length (bytesOf handyPhone (rest handyPhone (before - past))) ≤ length out
+      store-rest-room = omega (arith, left-long, w .size, w .room)
+
+      module _ (end : ℕ) (rested : end ≡ at + length (bytesOf handyPhone (rest handyPhone (before - past)))) where
+        pub store-mark-room : (m : List ℕ) → length m ≡ length out → end + 4 ≤ length m
+        store-mark-room m kept = omega (arith, left-long, w .size, w .room)
+
+        pub store-size : (n : ℕ) → n ≡ end + 4 → n ≡ length (orderBytes s (itemsOf voice s) spans 0 0 letters)
+        store-size n e = omega (arith, left-long, w .size)
+
+        pub store-ends : (m k : List ℕ) → m ≡ sets out at (bytesOf handyPhone (rest handyPhone (before - past))) → k ≡ sets m end (0 ∷ 0 ∷ 0 ∷ 0 ∷ [])
+            → k ≡ sets l 0 (orderBytes s (itemsOf voice s) spans 0 0 letters)
+        store-ends m k p q =
+            q ∙ ap₂ (λ (x : List ℕ) (n : ℕ). sets x n (0 ∷ 0 ∷ 0 ∷ 0 ∷ [])) p rested
+            ∙ sets-append out at (bytesOf handyPhone (rest handyPhone (before - past))) (0 ∷ 0 ∷ 0 ∷ 0 ∷ [])
+            ∙ ap (sets out at) (sym left-is) ∙ w .whole
+
+    -- before it
+    module _ (here : i < length letters) where
+      abbrev span-here : Span
+      span-here = spanAt spans (letters ! i)
+
+      abbrev rows-here : List (At Event)
+      rows-here = spanRows (itemsOf voice s) (spanAt spans (letters ! i)) before
+
+      next : drop i letters ≡ letters ! i ∷ drop (i + 1) letters
+      next = let on : suc i ≡ i + 1 = omega arith in drop-cons letters i 0 here ∙ ap (λ (n : ℕ). letters ! i ∷ drop n letters) on
+
+      lasts-next : lastsTogether spans (drop i letters) ≡ span-here .lasts + lastsTogether spans (drop (i + 1) letters)
+      unfolding lastsTogether
+      lasts-next = ap (lastsTogether spans) next
+
+      left-next : orderBytes s items spans past before (drop i letters)
+          ≡ partBytes s past rows-here ++ orderBytes s items spans (partLast s past rows-here) (before + span-here .lasts) (drop (i + 1) letters)
+      left-next = ap (orderBytes s items spans past before) next ∙ order-first s items spans past before (letters ! i) (drop (i + 1) letters)
+
+      long-next : length (orderBytes s items spans past before (drop i letters)) ≡ length (partBytes s past rows-here)
+          + length (orderBytes s items spans (partLast s past rows-here) (before + span-here .lasts) (drop (i + 1) letters))
+      long-next = ap length left-next ∙ length-append (partBytes s past rows-here) _
+
+      pub store-playable : Playable (itemsOf voice s) (length s) (spanAt spans (letters ! i))
+      store-playable = w .playable i here
+
+      pub store-room : at + length (partBytes s past (spanRows (itemsOf voice s) (spanAt spans (letters ! i)) before)) ≤ length out
+      store-room = omega (arith, long-next, w .size, w .room)
+
+      pub store-before-fits : Fits w64 (before + spanAt spans (letters ! i) .lasts)
+      store-before-fits = record { fits = omega (arith, w .late, lasts-next) }
+
+      pub store-nears : Fits w64 (i + 1)
+      store-nears = record { fits = omega (arith, w .listed) }
+
+      pub store-turns : (m : List ℕ) (told-at told-past : ℕ)
+          → told-at ≡ at + length (partBytes s past (spanRows (itemsOf voice s) (spanAt spans (letters ! i)) before))
+          → told-past ≡ partLast s past (spanRows (itemsOf voice s) (spanAt spans (letters ! i)) before)
+          → m ≡ sets out at (partBytes s past (spanRows (itemsOf voice s) (spanAt spans (letters ! i)) before))
+          → Storing l m told-at (before + spanAt spans (letters ! i) .lasts) told-past (i + 1)
+      store-turns m told-at told-past a p e =
+          let long : length m ≡ length out = ap length e ∙ length-sets out at (partBytes s past rows-here) in
+          let later : ℕ → List ℕ = λ last. orderBytes s items spans last (before + span-here .lasts) (drop (i + 1) letters) in
+          let stored : sets m told-at (later told-past) ≡ sets out at (orderBytes s items spans past before (drop i letters)) =
+          ap (λ (x : ℕ). sets m told-at (later x)) p
+          ∙ ap₂ (λ (x : List ℕ) (n : ℕ). sets x n (later (partLast s past rows-here))) e a
+          ∙ sets-append out at (partBytes s past rows-here) (later (partLast s past rows-here))
+          ∙ ap (sets out at) (sym left-next) in
+          let sized : told-at + length (later told-past) ≡ at + length (orderBytes s items spans past before (drop i letters)) =
+          ap₂ (λ (n x : ℕ). n + length (later x)) a p ∙ omega (arith, long-next) in
+          record {
+            bytes = w .bytes;
+            playable = w .playable;
+            rises = w .rises;
+            listed = w .listed;
+            within = omega arith;
+            early = omega (arith, p, last-within s past before (before + span-here .lasts) rows-here (w .early) (w .rises i here before));
+            late = omega (arith, w .late, lasts-next);
+            same = long ∙ w .same;
+            room = omega (arith, w .room, long);
+            size = sized ∙ w .size;
+            whole = stored ∙ w .whole;
+          }
+
+pub ruleset storing = (
+  store-slot,
+  store-slot-fits,
+  store-offset-fits,
+  store-early,
+  store-low,
+  store-rest-room,
+  store-mark-room,
+  store-size,
+  store-ends,
+  store-playable,
+  store-room,
+  store-before-fits,
+  store-nears,
+  store-turns,
+)

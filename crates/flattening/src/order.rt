@@ -1,0 +1,49 @@
+// The plain form of an order of letters, in memory with room for it.
+ghost use mathlib.Core.Path.{_≡_};
+ghost use mathlib.Core.Bool.{true};
+ghost use Prim.Native.Nat.{_≤_};
+ghost use lib.ListN.{length};
+ghost use lib.Seq.{sets};
+ghost use Rattle.model.specs.Item.{bodyOf, isFine, itemsOf};
+ghost use Rattle.playing.specs.Performing.{AllPlayable, lastsTogether};
+ghost use Rattle.flattening.specs.Orders.{orderBytes, AllRise};
+use super::gaps::write_rest;
+use super::section::write_messages;
+use model::Span;
+use model::Voice;
+use writing::write_end_mark;
+
+// The spans of letters one after the other, each message after the gap to the one before; then the rest and the end mark. Returns how
+// many bytes that is.
+pub fn write_order(
+    voice: Voice,
+    body: &[u8],
+    spans: [Span; 256],
+    letters: &[u8],
+    out: &mut [u8],
+) -> usize
+    requires { ⌜ length (now body) ≤ 65536 ⌝ }
+    requires { ⌜ isFine (bodyOf voice (now body)) ≡ true ⌝ }
+    requires { ⌜ length (now letters) ≤ 65536 ⌝ }
+    requires { ⌜ AllPlayable (itemsOf voice (now body)) (length (now body)) spans (now letters) ⌝ }
+    requires { ⌜ AllRise (itemsOf voice (now body)) spans (now letters) ⌝ }
+    requires { ⌜ lastsTogether spans (now letters) ≤ 4611686018427387904 ⌝ }
+    requires { ⌜ length (orderBytes (now body) (itemsOf voice (now body)) spans 0 0 (now letters)) ≤ length (now out) ⌝ }
+    ensures { λ r. ⌜ r ≡ length (orderBytes (now (body .entry)) (itemsOf voice (now (body .entry))) spans 0 0 (now (letters .entry))) ⌝ }
+    ensures { λ _. ⌜ now (out .exit) ≡ sets (now (out .entry)) 0 (orderBytes (now (body .entry)) (itemsOf voice (now (body .entry))) spans 0 0 (now (letters .entry))) ⌝ }
+{
+    let mut at: usize = 0;
+    let mut before: u64 = 0;
+    let mut past: u64 = 0;
+    let mut i: usize = 0;
+    while i < letters.len() {
+        let span = spans[letters[i] as usize];
+        let told = write_messages(voice, body, span, before, past, out, at);
+        at = told.at;
+        past = told.past;
+        before += span.lasts;
+        i += 1;
+    }
+    let end = write_rest(out, at, before - past);
+    write_end_mark(out, end)
+}
