@@ -6,3 +6,4 @@ pub mod Telling
 pub mod Shapes
 pub mod Shaping
 pub mod Ordering
+pub mod Sizing

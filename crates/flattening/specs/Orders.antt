@@ -1,15 +1,22 @@
 -- The plain form of an order: the spans of its letters one after the other, the rest before the end, and the end mark.
-use Prim.Native.Nat.{ℕ, _+_, _<_}
-use mathlib.Core.List.{List}
-use lib.ListN.{length}
+use Prim.Native.Nat.{ℕ, _+_, _<_, _≤_}
+use mathlib.Core.Path.{_≡_}
+use mathlib.Core.Bool.{false}
+use mathlib.Core.List.{List, [], _∷_}
+use lib.ListN.{length, getD}
+use Rattle.model.specs.Words.{if_then_else_, _<?_}
 use Rattle.model.specs.Bytes.{_!_}
-use Rattle.model.specs.Plain.{bytesOf, plainAfter}
+use Rattle.model.specs.Plain.{bytesOf, rest, plainAfter}
 use Rattle.model.specs.Content.{handyPhone}
 use Rattle.model.specs.declared.Span.{Span}
+use Rattle.model.specs.declared.Shape.{Shape}
 use Rattle.sections.specs.Spans.{Items, spanRows}
 use Rattle.sections.proofs.Steps.{Rising}
 use Rattle.playing.specs.Performing.{spanAt, lastsTogether, rowsTogether}
-use Rattle.flattening.specs.Parts.{told}
+use Rattle.flattening.specs.declared.Size.{Size}
+use Rattle.flattening.specs.declared.OrderSize.{OrderSize}
+use Rattle.flattening.specs.declared.OrderSize.the-variants.{Bytes, Over}
+use Rattle.flattening.specs.Parts.{told, gapSize, spanShape}
 
 -- the bytes that are left of a plain form, after what is past, where so much has been played before
 unfoldable pub orderBytes : List ℕ → Items → List Span → ℕ → ℕ → List ℕ → List ℕ
@@ -21,3 +28,45 @@ abbrev pub AllRise : Items → List Span → List ℕ → Type 0
 AllRise items spans letters =
     (i : ℕ) → i < length letters → (before : ℕ)
     → Rising before (before + spanAt spans (letters ! i) .lasts) (spanRows items (spanAt spans (letters ! i)) before)
+
+-- THE SIZE of a plain form, from the shapes of its spans
+
+abbrev pub noShape : Shape
+noShape = record { heard = false; lead = 0; bytes = 0; tail = 0 }
+
+abbrev pub shapeAt : List Shape → ℕ → Shape
+shapeAt shapes letter = getD shapes letter noShape
+
+-- one section more: the gap to its first message and its bytes, or, where it is silent, a longer gap
+unfoldable pub addShape : Size → Shape → Size
+addShape size shape =
+    if shape .heard then record { bytes = size .bytes + (gapSize (size .gap + shape .lead) + shape .bytes); gap = shape .tail } else
+    record { bytes = size .bytes; gap = size .gap + shape .tail }
+
+-- with the rest before the end and the end mark
+unfoldable pub wholeSize : Size → ℕ
+wholeSize size = size .bytes + length (bytesOf handyPhone (rest handyPhone (size .gap))) + 4
+
+unfoldable pub sizeAfter : List Shape → Size → List ℕ → ℕ
+sizeAfter shapes size [] = wholeSize size
+sizeAfter shapes size (letter ∷ letters) = sizeAfter shapes (addShape size (shapeAt shapes letter)) letters
+
+abbrev pub nothing : Size
+nothing = record { bytes = 0; gap = 0 }
+
+-- a plain form has 65,536 bytes at most
+unfoldable pub sizeAnswer : ℕ → OrderSize
+sizeAnswer many = if 65536 <? many then Over else Bytes many
+
+-- the shapes of a table are those of the spans of a list's letters, and what they come to can be counted on
+pub record Slight (shape : Shape) : Type 0 where
+  pub lead : shape .lead ≤ 1082064896
+  pub tail : shape .tail ≤ 1082064896
+  pub bytes : shape .bytes ≤ 70915304128512
+
+abbrev pub AllSlight : List Shape → List ℕ → Type 0
+AllSlight shapes letters = (i : ℕ) → i < length letters → Slight (shapeAt shapes (letters ! i))
+
+abbrev pub AllShaped : List ℕ → Items → List Span → List Shape → List ℕ → Type 0
+AllShaped body items spans shapes letters =
+    (i : ℕ) → i < length letters → shapeAt shapes (letters ! i) ≡ spanShape body items (spanAt spans (letters ! i))

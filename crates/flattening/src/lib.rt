@@ -2,6 +2,7 @@
 mod gaps;
 mod order;
 mod section;
+mod sizes;
 
 pub use gaps::gap_size;
 pub use gaps::left_of;
@@ -11,3 +12,16 @@ pub use gaps::write_waits;
 pub use order::write_order;
 pub use section::shape_of;
 pub use section::write_messages;
+pub use sizes::size_order;
+
+// How many bytes of a plain form are counted, and the time since the last message.
+pub struct Size {
+    pub bytes: usize,
+    pub gap: u64,
+}
+
+// The size of a plain form, where it is not over 65,536 bytes.
+pub enum OrderSize {
+    Bytes { length: usize },
+    Over,
+}
