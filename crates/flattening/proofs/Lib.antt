@@ -7,3 +7,5 @@ pub mod Shapes
 pub mod Shaping
 pub mod Ordering
 pub mod Sizing
+pub mod Tables
+pub mod Shaped

@@ -92,6 +92,11 @@ module _ (voice : Voice) (s : List ℕ) (span : Span) where
     over : (shape : Shape) → shape ≡ shaped (span .lasts) outline → rows ≡ [] → shape ≡ spanShape s (itemsOf voice s) span
     over shape e none = e ∙ ap (shaped (span .lasts)) (sym (ap (outlined s outline) none ∙ none-joined s outline)) ∙ r .whole
 
+    -- a body has so few bytes that a shape's can be counted on
+    pub shape-slight : (shape : Shape) → shape ≡ shaped (span .lasts) outline → shape .bytes ≤ 70915304128512
+    unfolding shaped
+    shape-slight shape e = omega (arith, ap (λ (x : Shape). x .bytes) e, r .small, r .within)
+
     pub shape-full : (shape : Shape) → shape ≡ shaped (span .lasts) outline → count ≡ 0 → shape ≡ spanShape s (itemsOf voice s) span
     shape-full shape e none = over shape e (rw none refl)
 

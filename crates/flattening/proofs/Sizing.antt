@@ -61,6 +61,7 @@ module _ (size : Size) (left : ℕ) (is : left ≡ length (bytesOf handyPhone (r
   whole-within h = size-within (size .bytes + left + 4) h ∙ ap (λ (n : ℕ). sizeAnswer (size .bytes + n + 4)) is
 
 pub ruleset adding = (add-after, add-silent)
+
 pub ruleset whole-sizes = (whole-over, whole-within)
 
 -- what is counted only grows
@@ -71,9 +72,9 @@ size-grows shapes size (letter ∷ letters) =
     let shape = shapeAt shapes letter in
     let later = size-grows shapes (addShape size shape) letters in
     let more : size .bytes ≤ addShape size shape .bytes =
-        by-test (shape .heard)
-        (λ h. omega (arith, ap (λ (x : Size). x .bytes) (add-heard size shape h)))
-        (λ h. omega (arith, ap (λ (x : Size). x .bytes) (add-silent size shape h))) in
+    by-test (shape .heard)
+    (λ h. omega (arith, ap (λ (x : Size). x .bytes) (add-heard size shape h)))
+    (λ h. omega (arith, ap (λ (x : Size). x .bytes) (add-silent size shape h))) in
     omega arith
 
 pub record Sizing (shapes : List Shape) (letters : List ℕ) (size : Size) (i : ℕ) : Type 0 where
@@ -191,8 +192,8 @@ module _ (s : List ℕ) (items : Items) (spans : List Span) (shapes : List Shape
       let part = span-size s items span before past h in
       let lead : before - past + spanShape s items span .lead ≡ before + spanShape s items span .lead - past = omega arith in
       let first : addShape size (spanShape s items span) ≡ record { bytes = bytes + length (partBytes s past rows); gap = before + span .lasts - partLast s past rows } =
-          sym (add-heard size (spanShape s items span) h)
-          ∙ ap₂ (λ (n t : ℕ). record { bytes = bytes + n; gap = t }) (ap (λ (g : ℕ). gapSize g + spanShape s items span .bytes) lead ∙ sym part) (sym tail) in
+      sym (add-heard size (spanShape s items span) h)
+      ∙ ap₂ (λ (n t : ℕ). record { bytes = bytes + n; gap = t }) (ap (λ (g : ℕ). gapSize g + spanShape s items span .bytes) lead ∙ sym part) (sym tail) in
       ap (λ (x : Size). sizeAfter shapes x letters) first
       ∙ order-sized letters (bytes + length (partBytes s past rows)) (partLast s past rows) (before + span .lasts) late rest-shaped rest-rises
       ∙ omega (arith, many))
@@ -200,10 +201,10 @@ module _ (s : List ℕ) (items : Items) (spans : List Span) (shapes : List Shape
       let none-there = span-silent s items span before past h in
       let gap : before - past + spanShape s items span .tail ≡ before + span .lasts - past = omega (arith, silent-tail s items span h) in
       let first : addShape size (spanShape s items span) ≡ record { bytes = bytes; gap = before + span .lasts - past } =
-          sym (add-silent size (spanShape s items span) h) ∙ ap (λ (t : ℕ). record { bytes = bytes; gap = t }) gap in
+      sym (add-silent size (spanShape s items span) h) ∙ ap (λ (t : ℕ). record { bytes = bytes; gap = t }) gap in
       let nothing-there : length (orderBytes s items spans past before (letter ∷ letters)) ≡ length (orderBytes s items spans past (before + span .lasts) letters) =
-          many ∙ ap (λ (r : List (At Event)). length (partBytes s past r) + length (orderBytes s items spans (partLast s past r) (before + span .lasts) letters)) none-there
-          ∙ silent-part past (orderBytes s items spans) (before + span .lasts) letters in
+      many ∙ ap (λ (r : List (At Event)). length (partBytes s past r) + length (orderBytes s items spans (partLast s past r) (before + span .lasts) letters)) none-there
+      ∙ silent-part past (orderBytes s items spans) (before + span .lasts) letters in
       ap (λ (x : Size). sizeAfter shapes x letters) first
       ∙ order-sized letters bytes past (before + span .lasts) (omega arith) rest-shaped rest-rises
       ∙ ap (λ (n : ℕ). bytes + n) (sym nothing-there))

@@ -70,3 +70,6 @@ AllSlight shapes letters = (i : ℕ) → i < length letters → Slight (shapeAt 
 abbrev pub AllShaped : List ℕ → Items → List Span → List Shape → List ℕ → Type 0
 AllShaped body items spans shapes letters =
     (i : ℕ) → i < length letters → shapeAt shapes (letters ! i) ≡ spanShape body items (spanAt spans (letters ! i))
+
+abbrev pub AllLight : List Shape → List ℕ → Type 0
+AllLight shapes letters = (i : ℕ) → i < length letters → shapeAt shapes (letters ! i) .bytes ≤ 70915304128512

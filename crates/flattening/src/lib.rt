@@ -1,6 +1,7 @@
 // The plain form of a section's messages: how many bytes it takes, and the bytes themselves, in lent memory.
 mod gaps;
 mod order;
+mod outlines;
 mod section;
 mod sizes;
 
@@ -10,6 +11,7 @@ pub use gaps::rest_size;
 pub use gaps::write_rest;
 pub use gaps::write_waits;
 pub use order::write_order;
+pub use outlines::shape_letters;
 pub use section::shape_of;
 pub use section::write_messages;
 pub use sizes::size_order;

@@ -173,6 +173,7 @@ pub fn shape_of(voice: Voice, body: &[u8], span: Span) -> Shape
     requires { ⌜ isFine (bodyOf voice (now body)) ≡ true ⌝ }
     requires { ⌜ Playable (itemsOf voice (now body)) (length (now body)) span ⌝ }
     ensures { λ r. ⌜ r ≡ spanShape (now (body .entry)) (itemsOf voice (now (body .entry))) span ⌝ }
+    ensures { λ r. ⌜ r .bytes ≤ 70915304128512 ⌝ }
 {
     let mut outline = no_message();
     let mut count = span.messages;

@@ -3,7 +3,7 @@ use borrow.Author.Needs.{needs}
 use Prim.Native.Nat.{_-_}
 use lib.ListN.{length}
 use native.Mathlib.Omega.{arith}
-use Rattle.flattening.proofs.Shaping.{Shaping, shape-starts, shapes, shape-known-ends}
+use Rattle.flattening.proofs.Shaping.{Shaping, shape-starts, shapes, shape-slight, shape-known-ends}
 use Rattle.flattening.proofs.section.shape_of.Statement.{statement}
 use Rattle.flattening.proofs.section.shape_of.Tie as tie
 
@@ -25,7 +25,7 @@ shape-in-requires : tie.Need-shape-in-requires Inv-loop μ-loop
 shape-in-requires c κs = search (needs, shapes)
 
 returns : tie.Need-returns Inv-loop μ-loop
-returns c = search shape-known-ends
+returns c = (search shape-known-ends, search shape-slight)
 
 read-item-requires : tie.Need-read-item-requires Inv-loop μ-loop
 read-item-requires c κs = search (needs, shapes)
@@ -79,13 +79,13 @@ shape-in-requires-2 : tie.Need-shape-in-requires-2 Inv-loop μ-loop
 shape-in-requires-2 c κs = search (needs, shapes)
 
 returns-2 : tie.Need-returns-2 Inv-loop μ-loop
-returns-2 c = search shape-known-ends
+returns-2 c = (search shape-known-ends, search shape-slight)
 
 shape-in-requires-3 : tie.Need-shape-in-requires-3 Inv-loop μ-loop
 shape-in-requires-3 c κs = search (needs, shapes)
 
 returns-3 : tie.Need-returns-3 Inv-loop μ-loop
-returns-3 c = search shape-known-ends
+returns-3 c = (search shape-known-ends, search shape-slight)
 
 pub shape-of-spec : {M : Type 1} → statement M
 shape-of-spec =
