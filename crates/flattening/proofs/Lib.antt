@@ -9,3 +9,4 @@ pub mod Ordering
 pub mod Sizing
 pub mod Tables
 pub mod Shaped
+pub mod Flattened

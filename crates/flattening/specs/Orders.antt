@@ -4,7 +4,7 @@ use mathlib.Core.Path.{_≡_}
 use mathlib.Core.Bool.{false}
 use mathlib.Core.List.{List, [], _∷_}
 use lib.ListN.{length, getD}
-use Rattle.model.specs.Words.{if_then_else_, _<?_}
+use Rattle.model.specs.Words.{if_then_else_, _or_, _<?_, Checked, Checked.fine, Checked.refused}
 use Rattle.model.specs.Bytes.{_!_}
 use Rattle.model.specs.Plain.{bytesOf, rest, plainAfter}
 use Rattle.model.specs.Content.{handyPhone}
@@ -73,3 +73,11 @@ AllShaped body items spans shapes letters =
 
 abbrev pub AllLight : List Shape → List ℕ → Type 0
 AllLight shapes letters = (i : ℕ) → i < length letters → shapeAt shapes (letters ! i) .bytes ≤ 70915304128512
+
+-- no span lasts longer than a body can
+abbrev pub AllShort : List Span → List ℕ → Type 0
+AllShort spans letters = (i : ℕ) → i < length letters → spanAt spans (letters ! i) .lasts ≤ 1082064896
+
+-- 18, at the track's header, where a plain form is over 65,536 bytes or over the room
+unfoldable pub fitted : ℕ → ℕ → List ℕ → Checked (List ℕ)
+fitted header room bytes = if (65536 <? length bytes) or (room <? length bytes) then refused 18 header else fine bytes

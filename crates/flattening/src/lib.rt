@@ -10,6 +10,7 @@ pub use gaps::left_of;
 pub use gaps::rest_size;
 pub use gaps::write_rest;
 pub use gaps::write_waits;
+pub use order::flatten_order;
 pub use order::write_order;
 pub use outlines::shape_letters;
 pub use section::shape_of;

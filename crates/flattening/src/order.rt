@@ -1,14 +1,19 @@
-// The plain form of an order of letters, in memory with room for it.
+// The plain form of an order of letters in lent memory: written where there is room, and refused before that where there is none.
 ghost use mathlib.Core.Path.{_≡_};
 ghost use mathlib.Core.Bool.{true};
 ghost use Prim.Native.Nat.{_≤_};
 ghost use lib.ListN.{length};
 ghost use lib.Seq.{sets};
 ghost use Rattle.model.specs.Item.{bodyOf, isFine, itemsOf};
+ghost use Rattle.model.specs.Answer.{flattenAnswer, flattenRoom};
 ghost use Rattle.playing.specs.Performing.{AllPlayable, lastsTogether};
-ghost use Rattle.flattening.specs.Orders.{orderBytes, AllRise};
+ghost use Rattle.flattening.specs.Orders.{orderBytes, AllRise, AllShort, fitted};
+use super::OrderSize;
 use super::gaps::write_rest;
+use super::outlines::shape_letters;
 use super::section::write_messages;
+use super::sizes::size_order;
+use model::FlattenAnswer;
 use model::Span;
 use model::Voice;
 use writing::write_end_mark;
@@ -46,4 +51,42 @@ pub fn write_order(
     }
     let end = write_rest(out, at, before - past);
     write_end_mark(out, end)
+}
+
+// The plain form of an order, where it has room; its size is known before a byte is written.
+pub fn flatten_order(
+    voice: Voice,
+    header: usize,
+    body: &[u8],
+    spans: [Span; 256],
+    letters: &[u8],
+    out: &mut [u8],
+) -> FlattenAnswer
+    requires { ⌜ length (now body) ≤ 65536 ⌝ }
+    requires { ⌜ isFine (bodyOf voice (now body)) ≡ true ⌝ }
+    requires { ⌜ length (now letters) ≤ 65536 ⌝ }
+    requires { ⌜ AllPlayable (itemsOf voice (now body)) (length (now body)) spans (now letters) ⌝ }
+    requires { ⌜ AllRise (itemsOf voice (now body)) spans (now letters) ⌝ }
+    requires { ⌜ AllShort spans (now letters) ⌝ }
+    ensures { λ r. ⌜ r ≡ flattenAnswer (fitted header (length (now (out .entry))) (orderBytes (now (body .entry)) (itemsOf voice (now (body .entry))) spans 0 0 (now (letters .entry)))) ⌝ }
+    ensures { λ _. ⌜ now (out .exit) ≡ flattenRoom (now (out .entry)) (fitted header (length (now (out .entry))) (orderBytes (now (body .entry)) (itemsOf voice (now (body .entry))) spans 0 0 (now (letters .entry)))) ⌝ }
+{
+    let shapes = shape_letters(voice, body, spans, letters);
+    match size_order(shapes, letters) {
+        OrderSize::Over => FlattenAnswer::Refused {
+            number: 18,
+            place: header,
+        },
+        OrderSize::Bytes { length } => {
+            if out.len() < length {
+                return FlattenAnswer::Refused {
+                    number: 18,
+                    place: header,
+                };
+            }
+            FlattenAnswer::Bytes {
+                length: write_order(voice, body, spans, letters, out),
+            }
+        }
+    }
 }

@@ -1,3 +1,4 @@
+-- `flattening::outlines::shape_letters` meets its contract.
 use mathlib.Core.Logic.{⊎-elim}
 use Rattle.flattening.proofs.Tables.{known-before, known-now}
 use borrow.Author.Needs.{needs}
@@ -8,10 +9,6 @@ use Rattle.model.specs.Item.{itemsOf}
 use Rattle.flattening.proofs.Shaped.{Shapen, shapen-starts, shapen-turns, shapening}
 use Rattle.flattening.proofs.outlines.shape_letters.Statement.{statement}
 use Rattle.flattening.proofs.outlines.shape_letters.Tie as tie
-use Rattle.flattening.proofs.outlines.shape_letters.Reads as reads
-use Rattle.flattening.proofs.outlines.shape_letters.Lts as lts
-use Rattle.flattening.proofs.outlines.no_shape.Reads as no-shape-reads
-use Rattle.flattening.proofs.section.shape_of.Reads as shape-of-reads
 
 abbrev Inv-loop : tie.InvT-loop
 Inv-loop voice body letters spans shapes₀ known₀ i₀ shapes known i = Shapen body (itemsOf voice body) (length body) spans letters shapes known i
@@ -19,60 +16,46 @@ Inv-loop voice body letters spans shapes₀ known₀ i₀ shapes known i = Shape
 abbrev μ-loop : tie.MeasureT-loop
 μ-loop voice body letters spans shapes₀ known₀ i₀ shapes known i = length letters - i
 
--- src/outlines.rt:33:23
 no-shape-requires : tie.Need-no-shape-requires Inv-loop μ-loop
 no-shape-requires c κs = search (needs, shapening)
 
--- src/outlines.rt:36:5
 loop-holds : tie.Need-loop-holds Inv-loop μ-loop
 loop-holds c =
     shapen-starts _ _ _ _ _ _ (λ k. omega (arith, c .before .shared-slice-known2 .given k)) (search needs) (search needs)
 
--- src/outlines.rt:37:20
 shared-slice-read-slot : tie.Need-shared-slice-read-slot Inv-loop μ-loop
 shared-slice-read-slot c = search (needs, shapening)
 
--- src/outlines.rt:37:20
 cast-slot : tie.Need-cast-slot Inv-loop μ-loop
 cast-slot c = search (needs, shapening)
 
--- src/outlines.rt:38:13
 array-read-if1 : tie.Need-array-read-if1 Inv-loop μ-loop
 array-read-if1 c = search (needs, shapening)
 
--- src/outlines.rt:39:24
 mul-span : tie.Need-mul-span Inv-loop μ-loop
 mul-span c = search (needs, shapening)
 
--- src/outlines.rt:39:24
 array-copy-out-span : tie.Need-array-copy-out-span Inv-loop μ-loop
 array-copy-out-span c = search (needs, shapening)
 
--- src/outlines.rt:40:28
 shape-of-requires : tie.Need-shape-of-requires Inv-loop μ-loop
 shape-of-requires c κs = (search needs, (search needs, search (needs, shapening)))
 
--- src/outlines.rt:40:13
 mul-shapes : tie.Need-mul-shapes Inv-loop μ-loop
 mul-shapes c = search (needs, shapening)
 
--- src/outlines.rt:40:13
 array-set-from-shapes : tie.Need-array-set-from-shapes Inv-loop μ-loop
 array-set-from-shapes c = search (needs, shapening)
 
--- src/outlines.rt:41:13
 array-write-known : tie.Need-array-write-known Inv-loop μ-loop
 array-write-known c = search (needs, shapening)
 
--- src/outlines.rt:43:9
 add-i : tie.Need-add-i Inv-loop μ-loop
 add-i c = search (needs, shapening)
 
--- src/outlines.rt:36:5
 loop-less : tie.Need-loop-less Inv-loop μ-loop
 loop-less c = search (needs, shapening)
 
--- src/outlines.rt:36:5
 loop-again : tie.Need-loop-again Inv-loop μ-loop
 loop-again c =
     let inv = c .before .before .before .loop .inv in
@@ -80,7 +63,6 @@ loop-again c =
     (⊎-elim (λ w. known-now _ _ _ _ _ (inv .table) _ _ _ (inv .bytes _) (w .2 .ensures) (w .3) (w .4))
     (λ w. known-before _ _ _ _ _ (inv .table) _ _ (w .0 .left) (w .1) (w .2)) (c .if1 .came))
 
--- src/outlines.rt:25:1
 returns : tie.Need-returns Inv-loop μ-loop
 returns c = (search shapening, search shapening)
 

@@ -1,36 +1,27 @@
+-- `flattening::sizes::add_shape` meets its contract.
 use Rattle.flattening.proofs.Sizing.{adding}
 use borrow.Author.Needs.{needs}
 use Rattle.flattening.proofs.sizes.add_shape.Statement.{statement}
 use Rattle.flattening.proofs.sizes.add_shape.Tie as tie
-use Rattle.flattening.proofs.sizes.add_shape.Reads as reads
-use Rattle.flattening.proofs.sizes.add_shape.Lts as lts
-use Rattle.flattening.proofs.gaps.gap_size.Reads as gap-size-reads
 
--- src/sizes.rt:21:43
 add-gap-size : tie.Need-add-gap-size
 add-gap-size c = search needs
 
--- src/sizes.rt:21:34
 gap-size-requires : tie.Need-gap-size-requires
 gap-size-requires c κs = search needs
 
--- src/sizes.rt:21:34
 add-t6 : tie.Need-add-t6
 add-t6 c = search needs
 
--- src/sizes.rt:21:20
 add-t7 : tie.Need-add-t7
 add-t7 c = search needs
 
--- src/sizes.rt:20:9
 returns : tie.Need-returns
 returns c = (search adding, search needs)
 
--- src/sizes.rt:27:14
 add-t8 : tie.Need-add-t8
 add-t8 c = search needs
 
--- src/sizes.rt:13:1
 returns-2 : tie.Need-returns-2
 returns-2 c = (search adding, search needs)
 

@@ -1,3 +1,4 @@
+-- `flattening::sizes::size_order` meets its contract.
 use borrow.Author.Needs.{needs}
 use Prim.Native.Nat.{_-_}
 use lib.ListN.{length}
@@ -5,10 +6,6 @@ use native.Mathlib.Omega.{arith}
 use Rattle.flattening.proofs.Sizing.{Sizing, size-starts, sizing}
 use Rattle.flattening.proofs.sizes.size_order.Statement.{statement}
 use Rattle.flattening.proofs.sizes.size_order.Tie as tie
-use Rattle.flattening.proofs.sizes.size_order.Reads as reads
-use Rattle.flattening.proofs.sizes.size_order.Lts as lts
-use Rattle.flattening.proofs.sizes.add_shape.Reads as add-shape-reads
-use Rattle.flattening.proofs.sizes.whole_size.Reads as whole-size-reads
 
 abbrev Inv-loop : tie.InvT-loop
 Inv-loop letters shapes size₀ i₀ size i = Sizing shapes letters size i
@@ -16,52 +13,40 @@ Inv-loop letters shapes size₀ i₀ size i = Sizing shapes letters size i
 abbrev μ-loop : tie.MeasureT-loop
 μ-loop letters shapes size₀ i₀ size i = length letters - i
 
--- src/sizes.rt:52:5
 loop-holds : tie.Need-loop-holds Inv-loop μ-loop
 loop-holds c =
     size-starts _ _ (λ k. omega (arith, c .shared-slice-known .given k)) (search needs) (search needs)
 
--- src/sizes.rt:54:13
 returns : tie.Need-returns Inv-loop μ-loop
 returns c = search (needs, sizing)
 
--- src/sizes.rt:56:28
 shared-slice-read-shape : tie.Need-shared-slice-read-shape Inv-loop μ-loop
 shared-slice-read-shape c = search (needs, sizing)
 
--- src/sizes.rt:56:28
 cast-shape : tie.Need-cast-shape Inv-loop μ-loop
 cast-shape c = search (needs, sizing)
 
--- src/sizes.rt:56:21
 mul-shape : tie.Need-mul-shape Inv-loop μ-loop
 mul-shape c = search (needs, sizing)
 
--- src/sizes.rt:56:21
 array-copy-out-shape : tie.Need-array-copy-out-shape Inv-loop μ-loop
 array-copy-out-shape c = search (needs, sizing)
 
--- src/sizes.rt:57:9
 add-shape-requires : tie.Need-add-shape-requires Inv-loop μ-loop
 add-shape-requires c κs = (search needs, (search sizing, search sizing))
 
--- src/sizes.rt:58:9
 add-i : tie.Need-add-i Inv-loop μ-loop
 add-i c = search (needs, sizing)
 
--- src/sizes.rt:52:5
 loop-less : tie.Need-loop-less Inv-loop μ-loop
 loop-less c = search (needs, sizing)
 
--- src/sizes.rt:52:5
 loop-again : tie.Need-loop-again Inv-loop μ-loop
 loop-again c = search (needs, sizing)
 
--- src/sizes.rt:60:5
 whole-size-requires : tie.Need-whole-size-requires Inv-loop μ-loop
 whole-size-requires c κs = (search sizing, search sizing)
 
--- src/sizes.rt:45:1
 returns-2 : tie.Need-returns-2 Inv-loop μ-loop
 returns-2 c = search (needs, sizing)
 

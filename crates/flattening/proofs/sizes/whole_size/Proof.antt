@@ -1,28 +1,21 @@
+-- `flattening::sizes::whole_size` meets its contract.
 use Rattle.flattening.proofs.Sizing.{whole-sizes}
 use borrow.Author.Needs.{needs}
 use Rattle.flattening.proofs.sizes.whole_size.Statement.{statement}
 use Rattle.flattening.proofs.sizes.whole_size.Tie as tie
-use Rattle.flattening.proofs.sizes.whole_size.Reads as reads
-use Rattle.flattening.proofs.sizes.whole_size.Lts as lts
-use Rattle.flattening.proofs.gaps.rest_size.Reads as rest-size-reads
 
--- src/sizes.rt:37:29
 rest-size-requires : tie.Need-rest-size-requires
 rest-size-requires c κs = search needs
 
--- src/sizes.rt:37:16
 add-many : tie.Need-add-many
 add-many c = search needs
 
--- src/sizes.rt:37:16
 add-many-2 : tie.Need-add-many-2
 add-many-2 c = search needs
 
--- src/sizes.rt:39:9
 returns : tie.Need-returns
 returns c = search (needs, whole-sizes)
 
--- src/sizes.rt:32:1
 returns-2 : tie.Need-returns-2
 returns-2 c = search (needs, whole-sizes)
 
