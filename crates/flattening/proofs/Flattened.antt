@@ -1,5 +1,5 @@
 -- 18, or the plain form of an order: what its size tells before a byte is written.
-use Prim.Native.Nat.{ℕ, zero, suc, _+_, _*_, _<_, _≤_}
+use Prim.Native.Nat.{ℕ, _+_, _<_, _≤_}
 use mathlib.Core.Bool.{true, false}
 use mathlib.Core.List.{List, [], _∷_, _++_}
 use mathlib.Core.Path.{_≡_, refl, sym, _∙_, ap, subst}
@@ -23,11 +23,12 @@ use Rattle.model.specs.declared.FlattenAnswer.the-variants as flatten
 use Rattle.model.proofs.Tests.{by-test}
 use Rattle.sections.specs.Spans.{Items, spanRows}
 use Rattle.sections.proofs.Steps.{Rising}
-use Rattle.playing.specs.Performing.{spanAt, lastsTogether}
+use Rattle.playing.specs.Performing.{spanAt, AllShort}
+use Rattle.playing.proofs.Together.{short-enough}
 use Rattle.flattening.specs.declared.OrderSize.{OrderSize}
 use Rattle.flattening.specs.declared.OrderSize.the-variants.{Bytes, Over}
 use Rattle.flattening.specs.Parts.{told, shapeOf, spanShape}
-use Rattle.flattening.specs.Orders.{orderBytes, AllRise, AllShort, shapeAt, sizeAfter, nothing, sizeAnswer, Slight, AllSlight, AllShaped, AllLight, fitted}
+use Rattle.flattening.specs.Orders.{orderBytes, AllRise, shapeAt, sizeAfter, nothing, sizeAnswer, Slight, AllSlight, AllShaped, AllLight, fitted}
 use Rattle.flattening.proofs.Sizing.{order-sized}
 
 -- what a shape says lies within its span
@@ -63,18 +64,6 @@ module _ (s : List ℕ) (items : Items) (spans : List Span) (shapes : List Shape
   pub size-is : AllShaped s items spans shapes letters → AllRise items spans letters → sizeAfter shapes nothing letters ≡ length (orderBytes s items spans 0 0 letters)
   size-is shaped rises = order-sized s items spans shapes letters 0 0 0 (omega arith) shaped rises ∙ zero-add _
 
--- what letters last together
-pub short-together : (spans : List Span) (letters : List ℕ) → AllShort spans letters → lastsTogether spans letters ≤ 1082064896 * length letters
-unfolding lastsTogether
-short-together spans [] short = omega arith
-short-together spans (letter ∷ letters) short =
-    let rest = short-together spans letters (λ i h. short (suc i) (omega arith)) in
-    let first = short 0 (omega arith) in
-    omega arith
-
-pub short-enough : (spans : List Span) (letters : List ℕ) → AllShort spans letters → length letters ≤ 65536 → lastsTogether spans letters ≤ 4611686018427387904
-short-enough spans letters short listed = omega (arith, short-together spans letters short)
-
 -- what a size tells
 
 over-is : (many : ℕ) → Over ≡ sizeAnswer many → 65536 < many
@@ -103,12 +92,12 @@ module _ (header room : ℕ) (bytes : List ℕ) where
   unfolding fitted _or_ if_then_else_
   all-fits k h = simp le-ltb
 
-module _ (o : Checked (List ℕ)) (header : ℕ) (is : o ≡ refused 18 header) where
-  refused-answer : flatten.Refused 18 header ≡ flattenAnswer o
+module _ (o : Checked (List ℕ)) (number place : ℕ) (is : o ≡ refused number place) where
+  pub refused-answer : flatten.Refused number place ≡ flattenAnswer o
   unfolding flattenAnswer
   refused-answer = ap flattenAnswer (sym is)
 
-  refused-room : (l : List ℕ) → l ≡ flattenRoom l o
+  pub refused-room : (l : List ℕ) → l ≡ flattenRoom l o
   unfolding flattenRoom memoryAfter
   refused-room l = ap (flattenRoom l) (sym is)
 
@@ -118,10 +107,10 @@ module _ (header : ℕ) (l bytes : List ℕ) (many : ℕ) (is : many ≡ length 
     over = too-long header (length l) bytes (omega (arith, is, over-is many (sym e ∙ told-size)))
 
     pub over-answer : flatten.Refused 18 header ≡ flattenAnswer (fitted header (length l) bytes)
-    over-answer = refused-answer _ header over
+    over-answer = refused-answer _ 18 header over
 
     pub over-room : l ≡ flattenRoom l (fitted header (length l) bytes)
-    over-room = refused-room _ header over l
+    over-room = refused-room _ 18 header over l
 
   module _ (found : ℕ) (e : r ≡ Bytes found) where
     found-is : (found ≡ many) × (many ≤ 65536)
@@ -132,10 +121,10 @@ module _ (header : ℕ) (l bytes : List ℕ) (many : ℕ) (is : many ≡ length 
       short = no-room header (length l) bytes (omega (arith, is, found-is .0, found-is .1)) (omega (arith, is, found-is .0))
 
       pub short-answer : flatten.Refused 18 header ≡ flattenAnswer (fitted header (length l) bytes)
-      short-answer = refused-answer _ header short
+      short-answer = refused-answer _ 18 header short
 
       pub short-room : l ≡ flattenRoom l (fitted header (length l) bytes)
-      short-room = refused-room _ header short l
+      short-room = refused-room _ 18 header short l
 
     module _ (enough : found ≤ length l) where
       pub fits-room : length bytes ≤ length l

@@ -7,6 +7,7 @@ pub mod Shapes
 pub mod Shaping
 pub mod Ordering
 pub mod Sizing
-pub mod Tables
 pub mod Shaped
 pub mod Flattened
+pub mod TrackFlattened
+pub mod Operations

@@ -16,7 +16,7 @@ use Rattle.sections.specs.Spans.{Items, Playable}
 use Rattle.playing.specs.Performing.{spanAt, AllPlayable}
 use Rattle.flattening.specs.Parts.{spanShape}
 use Rattle.flattening.specs.Orders.{noShape, shapeAt, AllShaped, AllLight}
-use Rattle.flattening.proofs.Tables.{Table, Known, table-starts}
+use Rattle.playing.proofs.Tables.{Table, Known, table-starts}
 
 -- the shape of a slot's span
 abbrev pub ShapeOf : List ℕ → Items → List Span → ℕ → Shape → Type 0

@@ -58,7 +58,7 @@ nothing = record { bytes = 0; gap = 0 }
 unfoldable pub sizeAnswer : ℕ → OrderSize
 sizeAnswer many = if 65536 <? many then Over else Bytes many
 
--- the shapes of a table are those of the spans of a list's letters, and what they come to can be counted on
+-- a shape whose times and bytes can be counted on
 pub record Slight (shape : Shape) : Type 0 where
   pub lead : shape .lead ≤ 1082064896
   pub tail : shape .tail ≤ 1082064896
@@ -67,16 +67,13 @@ pub record Slight (shape : Shape) : Type 0 where
 abbrev pub AllSlight : List Shape → List ℕ → Type 0
 AllSlight shapes letters = (i : ℕ) → i < length letters → Slight (shapeAt shapes (letters ! i))
 
+-- the shapes of a table are those of the spans of a list's letters
 abbrev pub AllShaped : List ℕ → Items → List Span → List Shape → List ℕ → Type 0
 AllShaped body items spans shapes letters =
     (i : ℕ) → i < length letters → shapeAt shapes (letters ! i) ≡ spanShape body items (spanAt spans (letters ! i))
 
 abbrev pub AllLight : List Shape → List ℕ → Type 0
 AllLight shapes letters = (i : ℕ) → i < length letters → shapeAt shapes (letters ! i) .bytes ≤ 70915304128512
-
--- no span lasts longer than a body can
-abbrev pub AllShort : List Span → List ℕ → Type 0
-AllShort spans letters = (i : ℕ) → i < length letters → spanAt spans (letters ! i) .lasts ≤ 1082064896
 
 -- 18, at the track's header, where a plain form is over 65,536 bytes or over the room
 unfoldable pub fitted : ℕ → ℕ → List ℕ → Checked (List ℕ)

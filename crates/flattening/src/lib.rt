@@ -1,21 +1,14 @@
-// The plain form of a section's messages: how many bytes it takes, and the bytes themselves, in lent memory.
+// FLATTEN: the plain form of a track in lent room. A section's messages are written after their gaps; how many bytes a whole order takes is
+// known from a few numbers for each of its sections before one is written.
 mod gaps;
+mod operation;
 mod order;
 mod outlines;
 mod section;
 mod sizes;
+mod tracks;
 
-pub use gaps::gap_size;
-pub use gaps::left_of;
-pub use gaps::rest_size;
-pub use gaps::write_rest;
-pub use gaps::write_waits;
-pub use order::flatten_order;
-pub use order::write_order;
-pub use outlines::shape_letters;
-pub use section::shape_of;
-pub use section::write_messages;
-pub use sizes::size_order;
+pub use operation::flatten;
 
 // How many bytes of a plain form are counted, and the time since the last message.
 pub struct Size {

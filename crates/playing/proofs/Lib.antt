@@ -6,9 +6,11 @@ pub mod Played
 pub mod Orders
 pub mod Phrased
 pub mod Bounded
+pub mod Tables
 pub mod Planning
 pub mod Writing
 pub mod Together
 pub mod OrderPlayed
+pub mod RowPerformed
 pub mod Operations
 pub mod Theorems

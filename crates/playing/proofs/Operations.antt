@@ -1,6 +1,6 @@
 -- PLAY from its steps: 1, then 2 to 14 on the whole file, then 16, then what the track plays from its bodies.
 use Prim.Native.Nat.{ℕ, _<_, _≤_}
-use mathlib.Core.Path.{_≡_, refl, sym, _∙_, ap, subst}
+use mathlib.Core.Path.{_≡_, refl, sym, _∙_, ap}
 use mathlib.Core.Bool.{Bool, true}
 use mathlib.Core.List.{List}
 use mathlib.Core.Option.{Option, none, some}
@@ -12,8 +12,8 @@ use Rattle.model.specs.Item.{isFine}
 use Rattle.model.specs.Play.{Section, Tune}
 use Rattle.model.specs.Order.{playOrder, tuneIn}
 use Rattle.model.specs.Track.{Track}
-use Rattle.model.specs.File.{File, contentsOf, fileOf, trackAt}
-use Rattle.model.specs.Answer.{Performance, named, ordered, performed, playOf, playAnswer, stepsTable, wordsTable}
+use Rattle.model.specs.File.{File, contentsOf, fileOf}
+use Rattle.model.specs.Answer.{Performance, ordered, performed, playOf, playAnswer, stepsTable, wordsTable}
 use Rattle.model.specs.declared.Event.{Event}
 use Rattle.model.specs.declared.Bodies.{Bodies}
 use Rattle.model.specs.declared.OpenedTrack.{OpenedTrack}
@@ -24,8 +24,9 @@ use Rattle.model.specs.declared.PlayAnswer.{PlayAnswer}
 use Rattle.model.specs.declared.PlayAnswer.the-variants as play
 use Rattle.model.proofs.Tests.{by-test}
 use Rattle.reading.specs.Stages.{fileAnswer}
-use Rattle.playing.specs.Performing.{Ready, bytesIn, Inside, Open, Opens, trackNamed, fitted, played, heard, rowPlayed}
+use Rattle.playing.specs.Performing.{Ready, bytesIn, Inside, Open, Opens, trackNamed, fitted, played, heard, rowPerformed, rowPlayed}
 use Rattle.playing.proofs.Played.{refused-answer, refused-steps, refused-words}
+use Rattle.playing.proofs.RowPerformed.{stated-fine, stated-refused, opened-track, row-inside, no-track}
 
 -- what is answered and left where an outcome is known under another name
 module _ (one other : Checked (Tune Event)) (same : one ≡ other) where
@@ -66,25 +67,24 @@ pub ruleset bodies-played = (bodies-ready, bodies-answer, bodies-steps, bodies-w
 
 -- THE ROW
 
-opens-some : (s : List ℕ) (named-track : Option Track) (bodies : Bodies) → Opens s named-track (opened.At bodies)
-    → (track : Track) × (named-track ≡ some track) × Open s bodies track
-opens-some s none bodies o = absurd o
-opens-some s (some track) bodies o = (track, refl, o)
+-- an order, and room for what it plays
+abbrev roomy : ℕ → Performance → Checked (Tune Event)
+roomy room performance =
+    (if room <? length (performance .tune .messages) then refused 15 (performance .track .header) else passed) >> fine (performance .tune)
 
-opens-none : (s : List ℕ) (named-track : Option Track) → Opens s named-track opened.Nowhere → named-track ≡ none
-opens-none s none o = refl
-opens-none s (some track) o = absurd o
+sections-played : (track : Track) (room : ℕ) (sections : List Section)
+    → roomy room (record { track = track; tune = tuneIn track sections }) ≡ played (track .header) room (track .items) (some sections)
+unfolding played fitted tuneIn _>>_ if_then_else_
+sections-played track room sections = by-test (room <? length (tuneIn track sections .messages)) (λ h. simp h) (λ h. simp h)
 
-row-named : (room : ℕ) (c : Checked File) (row : ℕ) (track : Track) → trackNamed c row ≡ some track
-    → rowPlayed room c row ≡ played (track .header) room (track .items) (playOrder track)
-unfolding trackNamed rowPlayed named _>>=_
-row-named room (fine file) row track e = rw e
-row-named room (refused n p) row track e = let z : _≡_ {A = ℕ} 0 1 = cc in absurd (omega arith)
+order-played : (track : Track) (room : ℕ) (o : Option (List Section)) → (ordered track o >>= roomy room) ≡ played (track .header) room (track .items) o
+unfolding ordered played _>>=_
+order-played track room none = refl
+order-played track room (some sections) = sections-played track room sections
 
-row-unnamed : (room : ℕ) (c : Checked File) (row : ℕ) → isFine c ≡ true → trackNamed c row ≡ none → rowPlayed room c row ≡ refused 16 0
-unfolding trackNamed rowPlayed named _>>=_ isFine
-row-unnamed room (fine file) row ok e = rw e
-row-unnamed room (refused n p) row ok e = let z : _≡_ {A = ℕ} 0 1 = cc in absurd (omega arith)
+row-refused : (room row : ℕ) (c : Checked File) (number place : ℕ) → rowPerformed c row ≡ refused number place → rowPlayed room c row ≡ refused number place
+unfolding rowPlayed _>>=_
+row-refused room row c number place e = rw e
 
 track-heard : (s : List ℕ) (room : ℕ) (bodies : Bodies) (track : Track) → Open s bodies track
     → heard (bodies .voice) (bodies .phrases) (bodies .header) room (bytesIn s (bodies .sequence)) (bytesIn s (bodies .seek))
@@ -93,36 +93,33 @@ unfolding heard playOrder
 track-heard s room bodies track o = rw (o .header, o .phrases, o .items, o .entries) refl
 
 module _ (s : List ℕ) (row : ℕ) (o : OpenedTrack) (opens : Opens s (trackNamed (contentsOf s) row) o) where
-  module _ (bodies : Bodies) (e : o ≡ opened.At bodies) where
-    the-track : (track : Track) × (trackNamed (contentsOf s) row ≡ some track) × Open s bodies track
-    the-track = opens-some s (trackNamed (contentsOf s) row) bodies (subst (Opens s (trackNamed (contentsOf s) row)) e opens)
-
-    pub row-inside : Inside s bodies
-    row-inside = the-track .2 .inside
-
-    row-heard : (room : ℕ) → heard (bodies .voice) (bodies .phrases) (bodies .header) room (bytesIn s (bodies .sequence)) (bytesIn s (bodies .seek))
+  module _ (bodies : Bodies) (e : o ≡ opened.At bodies) (room : ℕ) where
+    row-heard : heard (bodies .voice) (bodies .phrases) (bodies .header) room (bytesIn s (bodies .sequence)) (bytesIn s (bodies .seek))
         ≡ rowPlayed room (contentsOf s) row
-    row-heard room = track-heard s room bodies (the-track .0) (the-track .2) ∙ sym (row-named room (contentsOf s) row (the-track .0) (the-track .1))
+    unfolding rowPlayed
+    row-heard =
+        let found = opened-track s row o opens bodies e in
+        track-heard s room bodies (found .0) (found .2) ∙ sym (order-played (found .0) room (playOrder (found .0)))
+        ∙ ap (λ (c : Checked Performance). c >>= roomy room) (sym (found .1))
 
-    module _ (room : ℕ) where
-      pub row-answer : (r : PlayAnswer)
-          → r ≡ playAnswer (heard (bodies .voice) (bodies .phrases) (bodies .header) room (bytesIn s (bodies .sequence)) (bytesIn s (bodies .seek)))
-          → r ≡ playAnswer (rowPlayed room (contentsOf s) row)
-      row-answer = same-answer _ _ (row-heard room)
+    pub row-answer : (r : PlayAnswer)
+        → r ≡ playAnswer (heard (bodies .voice) (bodies .phrases) (bodies .header) room (bytesIn s (bodies .sequence)) (bytesIn s (bodies .seek)))
+        → r ≡ playAnswer (rowPlayed room (contentsOf s) row)
+    row-answer = same-answer _ _ row-heard
 
-      pub row-steps : (l m : List ℕ)
-          → m ≡ stepsTable l (heard (bodies .voice) (bodies .phrases) (bodies .header) room (bytesIn s (bodies .sequence)) (bytesIn s (bodies .seek)))
-          → m ≡ stepsTable l (rowPlayed room (contentsOf s) row)
-      row-steps = same-steps _ _ (row-heard room)
+    pub row-steps : (l m : List ℕ)
+        → m ≡ stepsTable l (heard (bodies .voice) (bodies .phrases) (bodies .header) room (bytesIn s (bodies .sequence)) (bytesIn s (bodies .seek)))
+        → m ≡ stepsTable l (rowPlayed room (contentsOf s) row)
+    row-steps = same-steps _ _ row-heard
 
-      pub row-words : (l m : List ℕ)
-          → m ≡ wordsTable l (heard (bodies .voice) (bodies .phrases) (bodies .header) room (bytesIn s (bodies .sequence)) (bytesIn s (bodies .seek)))
-          → m ≡ wordsTable l (rowPlayed room (contentsOf s) row)
-      row-words = same-words _ _ (row-heard room)
+    pub row-words : (l m : List ℕ)
+        → m ≡ wordsTable l (heard (bodies .voice) (bodies .phrases) (bodies .header) room (bytesIn s (bodies .sequence)) (bytesIn s (bodies .seek)))
+        → m ≡ wordsTable l (rowPlayed room (contentsOf s) row)
+    row-words = same-words _ _ row-heard
 
   module _ (ok : isFine (contentsOf s) ≡ true) (room : ℕ) (e : o ≡ opened.Nowhere) where
     no-row : rowPlayed room (contentsOf s) row ≡ refused 16 0
-    no-row = row-unnamed room (contentsOf s) row ok (opens-none s (trackNamed (contentsOf s) row) (subst (Opens s (trackNamed (contentsOf s) row)) e opens))
+    no-row = row-refused room row (contentsOf s) 16 0 (no-track s row o opens ok e)
 
     pub no-row-answer : play.Refused 16 0 ≡ playAnswer (rowPlayed room (contentsOf s) row)
     no-row-answer = refused-answer _ 16 0 no-row
@@ -137,23 +134,10 @@ pub ruleset rows-played = (row-inside, row-answer, row-steps, row-words, no-row-
 
 -- THE STATED BYTES
 
-row-refused : (room row : ℕ) (c : Checked File) (number place : ℕ) → fileAnswer c ≡ counted.Refused number place → rowPlayed room c row ≡ refused number place
-unfolding rowPlayed fileAnswer _>>=_
-row-refused room row (fine file) number place e = let z : _≡_ {A = ℕ} 0 1 = cc in absurd (omega arith)
-row-refused room row (refused n p) number place e = let a : n ≡ number = cc in let b : p ≡ place = cc in rw (a, b)
-
-file-fine : (c : Checked File) (count : ℕ) → fileAnswer c ≡ counted.Rows count → isFine c ≡ true
-unfolding fileAnswer isFine
-file-fine (fine file) count e = refl
-file-fine (refused n p) count e = let z : _≡_ {A = ℕ} 0 1 = cc in absurd (omega arith)
-
 module _ (s : List ℕ) (r : Counted) (told : r ≡ fileAnswer (contentsOf s)) where
-  pub stated-fine : (count : ℕ) → r ≡ counted.Rows count → isFine (contentsOf s) ≡ true
-  stated-fine count e = file-fine (contentsOf s) count (sym told ∙ e)
-
   module _ (room row number place : ℕ) (e : r ≡ counted.Refused number place) where
     stated : rowPlayed room (contentsOf s) row ≡ refused number place
-    stated = row-refused room row (contentsOf s) number place (sym told ∙ e)
+    stated = row-refused room row (contentsOf s) number place (stated-refused s r told row number place e)
 
     pub stated-answer : play.Refused number place ≡ playAnswer (rowPlayed room (contentsOf s) row)
     stated-answer = refused-answer _ number place stated
@@ -168,41 +152,13 @@ pub ruleset stated-played = (stated-fine, stated-answer, stated-steps, stated-wo
 
 -- THE BUFFER
 
-sections-played : (track : Track) (room : ℕ) (sections : List Section)
-    → ((if room <? length (tuneIn track sections .messages) then refused 15 (track .header) else passed) >> fine (tuneIn track sections))
-    ≡ played (track .header) room (track .items) (some sections)
-unfolding played fitted tuneIn _>>_ if_then_else_
-sections-played track room sections = by-test (room <? length (tuneIn track sections .messages)) (λ h. simp h) (λ h. simp h)
-
-abbrev roomy : ℕ → Performance → Checked (Tune Event)
-roomy room performance =
-    (if room <? length (performance .tune .messages) then refused 15 (performance .track .header) else passed) >> fine (performance .tune)
-
-order-played : (track : Track) (room : ℕ) (o : Option (List Section)) → (ordered track o >>= roomy room) ≡ played (track .header) room (track .items) o
-unfolding ordered played _>>=_
-order-played track room none = refl
-order-played track room (some sections) = sections-played track room sections
-
-track-played : (room : ℕ) (o : Option Track)
-    → ((named o >>= λ track. ordered track (playOrder track)) >>= roomy room)
-    ≡ (named o >>= λ track. played (track .header) room (track .items) (playOrder track))
-unfolding named _>>=_
-track-played room none = refl
-track-played room (some track) = order-played track room (playOrder track)
-
-row-is : (room row : ℕ) (c : Checked File)
-    → ((c >>= λ file. named (trackAt file row) >>= λ track. ordered track (playOrder track)) >>= roomy room) ≡ rowPlayed room c row
-unfolding rowPlayed _>>=_
-row-is room row (fine file) = track-played room (trackAt file row)
-row-is room row (refused n p) = refl
-
 play-is : (buffer : List ℕ) (n row room : ℕ) → playOf buffer n row room ≡ rowPlayed room (fileOf buffer n) row
-unfolding playOf performed
-play-is buffer n row room = row-is room row (fileOf buffer n)
+unfolding playOf performed rowPlayed rowPerformed
+play-is buffer n row room = refl
 
 module _ (buffer : List ℕ) (n row room : ℕ) where
   unstated : ((length buffer <? n) or (65536 <? n)) ≡ true → playOf buffer n row room ≡ refused 1 0
-  unfolding fileOf rowPlayed _>>=_ _>>_ if_then_else_
+  unfolding fileOf rowPlayed rowPerformed _>>=_ _>>_ if_then_else_
   unstated h = play-is buffer n row room ∙ rw h
 
   past : length buffer < n → playOf buffer n row room ≡ refused 1 0

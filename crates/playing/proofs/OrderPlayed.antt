@@ -20,7 +20,7 @@ use Rattle.model.specs.declared.PlayAnswer.the-variants as play
 use Rattle.sections.specs.Spans.{Items, stepsOf, wordsOf}
 use Rattle.playing.specs.Performing.{entriesSaid, Ready, letterSection, AllPlayable, messagesTogether, lastsTogether, rowsTogether, Planned, fitted, played, heard}
 use Rattle.playing.proofs.Played.{refused-answer, refused-steps, refused-words, tune-short, tune-answer, tune-steps, tune-words}
-use Rattle.playing.proofs.Together.{letters-playable, letters-last, letters-sound, letters-count}
+use Rattle.playing.proofs.Together.{letters-playable, letters-last, letters-sound, letters-count, short-enough}
 
 module _ (voice : Voice) (header : ℕ) (body seek steps words : List ℕ) where
   abbrev items : Items
@@ -73,8 +73,8 @@ module _ (voice : Voice) (header : ℕ) (body seek steps words : List ℕ) where
     pub order-playable : AllPlayable (itemsOf voice body) (length body) (plan .spans) letters
     order-playable = letters-playable items (length body) (entriesSaid true seek) (plan .spans) letters (planned .spans)
 
-    pub order-short-enough : lastsTogether (plan .spans) letters ≤ 4611686018427387904
-    order-short-enough = planned .short
+    pub order-short-enough : length letters ≤ 65536 → lastsTogether (plan .spans) letters ≤ 4611686018427387904
+    order-short-enough = short-enough (plan .spans) letters (planned .short)
 
     module _ (least : ℕ) (shorter : least ≡ min (length steps) (length words)) where
       short : least < plan .count → heard voice true header room body seek ≡ refused 15 header

@@ -1,28 +1,26 @@
--- THE PLAN of an order list: a table of the spans that are known, and the invariant of `plan_letters`'s loop, that what the letters ahead
--- add to what is counted makes the whole, with what each turn and the end make of it.
+-- THE PLAN of an order list: the invariant of `plan_letters`'s loop, that the spans which are known are right and that what the letters
+-- ahead add to what is counted makes the whole, with what each turn and the end make of it.
 use Prim.Native.Nat.{ℕ, suc, _+_, _*_, _<_, _≤_}
-use mathlib.Core.Bool.{Bool, true, false, not, false≢true}
+use mathlib.Core.Bool.{Bool, true, false}
 use mathlib.Core.List.{List, [], _∷_, map}
 use mathlib.Core.Path.{_≡_, refl, sym, _∙_, ap, ap₂}
 use mir.Syntax.{w64}
 use mir.Val.{Fits}
-use lib.ListN.{length, getD, set, drop, length-set, replicate, length-replicate}
-use lib.Seq.{drop-cons, drop-length, getD-set-same, getD-set-other}
+use lib.ListN.{length, getD, drop, replicate}
+use lib.Seq.{drop-cons, drop-length}
 use native.Mathlib.Nat.{add-zero, zero-add, add-assoc}
 use native.Mathlib.Decide.{decLt}
 use native.Mathlib.Omega.{arith}
-use borrow.Author.Tests.{eqb-true, eqb-false, not-false}
-use Rattle.model.specs.Words.{_≡?_, sum, isSome, Placed}
+use Rattle.model.specs.Words.{sum, isSome, Placed}
 use Rattle.model.specs.Bytes.{_!_}
 use Rattle.model.specs.Item.{bodyOf, isFine, itemsOf}
 use Rattle.model.specs.Seek.{Entry, phraseOf}
 use Rattle.model.specs.declared.Voice.{Voice}
 use Rattle.model.specs.declared.Span.{Span}
 use Rattle.sections.specs.Spans.{Items}
-use Rattle.model.proofs.Tests.{by-test}
-use Rattle.seek.proofs.Ordering.{none-flagged}
 use Rattle.playing.specs.Performing.{noSpan, spanAt, letterSpan, Named, Spanned, messagesTogether, lastsTogether, Planned}
 use Rattle.playing.proofs.Bounded.{letter-few, letter-short}
+use Rattle.playing.proofs.Tables.{Table, Known, table-starts}
 
 -- each letter of a list that is named has a phrase
 pub named-here : (entries : List (Placed Entry)) (letters : List ℕ) (i : ℕ) → Named entries letters → i < length letters
@@ -80,40 +78,9 @@ module _ (items : Items) (size : ℕ) (entries : List (Placed Entry)) where
       ap₂ (λ (span : Span) (n : ℕ). span .lasts + n) (sym (first-spanned spans letter letters is))
       (lasts-are spans letters (rest-spanned spans letter letters is))
 
-  -- A TABLE of spans: those of the letters that are known are right
-  pub record Table (spans : List Span) (known : List Bool) : Type 0 where
-    pub wide : length spans ≡ 256
-    pub flagged : length known ≡ 256
-    pub right : (letter : ℕ) → getD known letter false ≡ true → spanAt spans letter ≡ letterSpan items size entries letter
-
-  -- a letter is known, and so are all that were before
-  pub record Known (letter : ℕ) (before : List Bool) (spans : List Span) (known : List Bool) : Type 0 where
-    pub table : Table spans known
-    pub here : getD known letter false ≡ true
-    pub kept : (other : ℕ) → getD before other false ≡ true → getD known other false ≡ true
-
-  pub known-before : (letter : ℕ) (spans : List Span) (known : List Bool) → Table spans known → not (getD known letter false) ≡ false
-      → (spans' : List Span) (known' : List Bool) → spans' ≡ spans → known' ≡ known → Known letter known spans' known'
-  known-before letter spans known table here spans' known' p q =
-      rw (p, q) (record { table = table; here = not-false (getD known letter false) here; kept = λ other h. h })
-
-  pub known-now : (letter : ℕ) (spans : List Span) (known : List Bool) (r : Span) → Table spans known → letter < 256 → r ≡ letterSpan items size entries letter
-      → (spans' : List Span) (known' : List Bool) → spans' ≡ set spans letter r → known' ≡ set known letter true → Known letter known spans' known'
-  known-now letter spans known r table small is spans' known' p q =
-      rw (p, q) (record {
-        table = record {
-          wide = length-set spans letter r ∙ table .wide;
-          flagged = length-set known letter true ∙ table .flagged;
-          right = λ other h. by-test (other ≡? letter)
-              (λ t. let e = eqb-true other letter t in rw e (getD-set-same spans letter r noSpan (omega (arith, table .wide)) ∙ is))
-              (λ t. let e = eqb-false other letter t in
-              getD-set-other spans letter other r noSpan e ∙ table .right other (sym (getD-set-other known letter other true false e) ∙ h));
-        };
-        here = getD-set-same known letter true false (omega (arith, table .flagged));
-        kept = λ other h. by-test (other ≡? letter)
-            (λ t. let e = eqb-true other letter t in rw e (getD-set-same known letter true false (omega (arith, table .flagged))))
-            (λ t. let e = eqb-false other letter t in getD-set-other known letter other true false e ∙ h);
-      })
+  -- the span of a letter's phrase
+  abbrev pub SpanOf : ℕ → Span → Type 0
+  SpanOf letter span = span ≡ letterSpan items size entries letter
 
   pub record Planning (letters : List ℕ) (spans : List Span) (known : List Bool) (count end i : ℕ) : Type 0 where
     pub bytes : (k : ℕ) → letters ! k < 256
@@ -121,7 +88,7 @@ module _ (items : Items) (size : ℕ) (entries : List (Placed Entry)) where
     pub short : (letter : ℕ) → lastsBy letter ≤ 1082064896
     pub listed : length letters ≤ 65536
     pub within : i ≤ length letters
-    pub table : Table spans known
+    pub table : Table noSpan SpanOf spans known
     pub seen : (j : ℕ) → j < i → getD known (letters ! j) false ≡ true
     pub many : count ≤ 65536 * i
     pub long : end ≤ 1082064896 * i
@@ -141,15 +108,14 @@ module _ (items : Items) (size : ℕ) (entries : List (Placed Entry)) where
     pub plan-ends : length letters ≤ i → Planned items size entries letters (record { spans = spans; count = count; end = end })
     plan-ends past =
         let is : Spanned items size entries spans letters = λ j h. p .table .right (letters ! j) (p .seen j (omega arith)) in
-        let lasts : end ≡ lastsTogether spans letters = sum-ends lastsBy letters i end _ (p .within) past (p .ended) ∙ lasts-are spans letters is in
         record {
           spans = is;
           count = sum-ends messagesBy letters i count _ (p .within) past (p .counted) ∙ messages-are spans letters is;
-          end = lasts;
-          short = omega (arith, lasts, p .long, p .within, p .listed);
+          end = sum-ends lastsBy letters i end _ (p .within) past (p .ended) ∙ lasts-are spans letters is;
+          short = λ j h. omega (arith, ap (λ (span : Span). span .lasts) (is j h), p .short (letters ! j));
         }
 
-    module _ (spans' : List Span) (known' : List Bool) (here : i < length letters) (k : Known (letters ! i) known spans' known') where
+    module _ (spans' : List Span) (known' : List Bool) (here : i < length letters) (k : Known noSpan SpanOf (letters ! i) known spans' known') where
       same : spanAt spans' (letters ! i) ≡ letterSpan items size entries (letters ! i)
       same = k .table .right (letters ! i) (k .here)
 
@@ -197,11 +163,7 @@ plan-starts voice s entries letters span bytes letter-bytes small reads listed =
       short = letter-short voice s bytes small reads entries;
       listed = listed;
       within = omega arith;
-      table = record {
-        wide = length-replicate 256 span;
-        flagged = length-replicate 256 false;
-        right = λ letter h. absurd (false≢true (sym (none-flagged 256 letter) ∙ h));
-      };
+      table = table-starts noSpan (SpanOf (itemsOf voice s) (length s) entries) span;
       seen = λ j h. absurd (omega arith);
       many = omega arith;
       long = omega arith;

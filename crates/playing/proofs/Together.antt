@@ -1,6 +1,6 @@
 -- WHAT AN ORDER LIST COMES TO: where a table has the spans of its letters, their messages, their length and their rows together are those
 -- of the sections that the letters name, played one after the other.
-use Prim.Native.Nat.{ℕ, suc, _+_}
+use Prim.Native.Nat.{ℕ, suc, _+_, _*_, _≤_}
 use mathlib.Core.Bool.{true}
 use mathlib.Core.List.{List, [], _∷_, _++_, map}
 use mathlib.Core.Path.{_≡_, refl, sym, _∙_, ap, ap₂}
@@ -17,7 +17,7 @@ use Rattle.model.specs.declared.Event.{Event}
 use Rattle.model.specs.declared.Span.{Span}
 use Rattle.sections.specs.Spans.{Items, onsets, spanOf, spanRows}
 use Rattle.sections.proofs.Stretches.{span-sounds}
-use Rattle.playing.specs.Performing.{spanAt, letterSection, letterSpan, Spanned, AllPlayable, messagesTogether, lastsTogether, rowsTogether}
+use Rattle.playing.specs.Performing.{spanAt, letterSection, letterSpan, Spanned, AllPlayable, AllShort, messagesTogether, lastsTogether, rowsTogether}
 use Rattle.playing.proofs.Planning.{first-spanned, rest-spanned}
 use Rattle.playing.proofs.Writing.{rows-many}
 
@@ -33,6 +33,18 @@ module _ (items : Items) (size : ℕ) (entries : List (Placed Entry)) (spans : L
   letters-last (letter ∷ letters) is =
       ap₂ (λ (span : Span) (n : ℕ). span .lasts + n) (first-spanned items size entries spans letter letters is)
       (letters-last letters (rest-spanned items size entries spans letter letters is))
+
+-- what letters last together
+short-together : (spans : List Span) (letters : List ℕ) → AllShort spans letters → lastsTogether spans letters ≤ 1082064896 * length letters
+unfolding lastsTogether
+short-together spans [] short = omega arith
+short-together spans (letter ∷ letters) short =
+    let rest = short-together spans letters (λ i h. short (suc i) (omega arith)) in
+    let first = short 0 (omega arith) in
+    omega arith
+
+pub short-enough : (spans : List Span) (letters : List ℕ) → AllShort spans letters → length letters ≤ 65536 → lastsTogether spans letters ≤ 4611686018427387904
+short-enough spans letters short listed = omega (arith, short-together spans letters short)
 
 module _ (voice : Voice) (s : List ℕ) (reads : isFine (bodyOf voice s) ≡ true) (entries : List (Placed Entry)) (spans : List Span) where
   abbrev items : Items

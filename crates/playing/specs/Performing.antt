@@ -6,7 +6,7 @@ use mathlib.Core.Bool.{Bool, true}
 use mathlib.Core.List.{List, [], _∷_, _++_, map}
 use mathlib.Core.Option.{Option, none, some}
 use lib.ListN.{length, getD}
-use Rattle.model.specs.Words.{if_then_else_, _<?_, _≡?_, isSome, Placed, Checked, Checked.fine, Checked.refused, passed, _>>=_}
+use Rattle.model.specs.Words.{if_then_else_, _<?_, _≡?_, isSome, Placed, Checked, Checked.fine, Checked.refused, passed, _>>=_, _>>_}
 use Rattle.model.specs.Bytes.{_!_, part}
 use Rattle.model.specs.Item.{isFine, found, bodyOf, itemsOf}
 use Rattle.model.specs.Seek.{Entry, seekOf, phraseOf}
@@ -15,7 +15,7 @@ use Rattle.model.specs.Word.{isMessage}
 use Rattle.model.specs.Order.{phraseSection, orderOf, playOrder}
 use Rattle.model.specs.Track.{Track, pointWidth, pointsOf}
 use Rattle.model.specs.File.{File, trackAt}
-use Rattle.model.specs.Answer.{named}
+use Rattle.model.specs.Answer.{Performance, named, ordered}
 use Rattle.model.specs.declared.Voice.{Voice}
 use Rattle.model.specs.declared.Event.{Event}
 use Rattle.model.specs.declared.Points.{Points}
@@ -112,6 +112,10 @@ Spanned items size entries spans letters = (i : ℕ) → i < length letters → 
 abbrev pub AllPlayable : Items → ℕ → List Span → List ℕ → Type 0
 AllPlayable items size spans letters = (i : ℕ) → i < length letters → Playable items size (spanAt spans (letters ! i))
 
+-- no span lasts longer than a body can
+abbrev pub AllShort : List Span → List ℕ → Type 0
+AllShort spans letters = (i : ℕ) → i < length letters → spanAt spans (letters ! i) .lasts ≤ 1082064896
+
 -- how many messages the spans of letters play together, and how long they last
 unfoldable pub messagesTogether : List Span → List ℕ → ℕ
 messagesTogether spans [] = 0
@@ -125,7 +129,7 @@ pub record Planned (items : Items) (size : ℕ) (entries : List (Placed Entry)) 
   pub spans : Spanned items size entries (plan .spans) letters
   pub count : plan .count ≡ messagesTogether (plan .spans) letters
   pub end : plan .end ≡ lastsTogether (plan .spans) letters
-  pub short : lastsTogether (plan .spans) letters ≤ 4611686018427387904
+  pub short : AllShort (plan .spans) letters
 
 -- the rows of letters, one span after the other, where so much has been played before
 unfoldable pub rowsTogether : Items → List Span → ℕ → List ℕ → List (At Event)
@@ -146,9 +150,15 @@ unfoldable pub heard : Voice → Bool → ℕ → ℕ → List ℕ → List ℕ 
 heard voice phrases header room body seek =
     played header room (itemsOf voice body) (orderOf phrases (itemsOf voice body) (entriesSaid phrases seek))
 
--- what the track that a row of a file names plays
-unfoldable pub rowPlayed : ℕ → Checked File → ℕ → Checked (Tune Event)
-rowPlayed room outcome row = do
+-- what the track that a row of a file names performs
+unfoldable pub rowPerformed : Checked File → ℕ → Checked Performance
+rowPerformed outcome row = do
   file ← outcome
   track ← named (trackAt file row)
-  played (track .header) room (track .items) (playOrder track)
+  ordered track (playOrder track)
+
+unfoldable pub rowPlayed : ℕ → Checked File → ℕ → Checked (Tune Event)
+rowPlayed room outcome row = do
+  performance ← rowPerformed outcome row
+  if room <? length (performance .tune .messages) then refused 15 (performance .track .header) else passed
+  fine (performance .tune)

@@ -6,5 +6,10 @@ mod operation;
 mod phrases;
 mod stream;
 
+pub use bodies::bytes_in;
 pub use bodies::open_track;
+pub use letters::plan_letters;
 pub use operation::play;
+pub use phrases::letters_played;
+pub use stream::points_of;
+pub use stream::span_of_stream;

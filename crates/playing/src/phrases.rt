@@ -28,7 +28,7 @@ fn last_position(points: Points) -> usize
 }
 
 // The letters that are played: of the order list those from its start up to but without its stop.
-fn letters_played<'a>(seek: &'a [u8], points: Points) -> &'a [u8]
+pub fn letters_played<'a>(seek: &'a [u8], points: Points) -> &'a [u8]
     requires { ⌜ Listed (now seek) points ⌝ }
     ensures { λ r. ⌜ now r ≡ part (now (seek .entry)) (points .order + points .start) (lastPosition points - points .start) ⌝ }
 {

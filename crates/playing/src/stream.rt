@@ -8,7 +8,7 @@ ghost use Rattle.model.specs.Item.{itemsOf};
 ghost use Rattle.model.specs.Seek.{pointsSaid, startPoint, stopPoint};
 ghost use Rattle.model.specs.Order.{streamSection};
 ghost use Rattle.model.specs.Answer.{playAnswer, stepsTable, wordsTable};
-ghost use Rattle.sections.specs.Spans.{spanOf};
+ghost use Rattle.sections.specs.Spans.{spanOf, Small};
 ghost use Rattle.playing.specs.Performing.{entriesSaid, Formed, Ready, heard};
 use model::PlayAnswer;
 use model::Points;
@@ -36,9 +36,10 @@ pub fn points_of(phrases: bool, seek: &[u8]) -> Points
 }
 
 // From its start point, or its head, to its stop point, or without an end.
-fn span_of_stream(voice: Voice, body: &[u8], seek: &[u8]) -> Span
+pub fn span_of_stream(voice: Voice, body: &[u8], seek: &[u8]) -> Span
     requires { ⌜ Ready voice false (now body) (now seek) ⌝ }
     ensures { λ r. ⌜ r ≡ spanOf (itemsOf voice (now (body .entry))) (length (now (body .entry))) (streamSection (itemsOf voice (now (body .entry))) (startPoint (entriesSaid false (now (seek .entry))) otherwise 0) (stopPoint (entriesSaid false (now (seek .entry))))) ⌝ }
+    ensures { λ r. ⌜ Small (length (now (body .entry))) r ⌝ }
 {
     let points = points_of(false, seek);
     if points.stops {

@@ -23,7 +23,7 @@ rising-append low middle high (row ∷ rows) more h k = (h .0, rising-append (ro
 
 module _ (items : Items) where
   -- each section's steps rise, whatever has been played before
-  abbrev Rises : Section → Type 0
+  abbrev pub Rises : Section → Type 0
   Rises section = (before : ℕ) → Rising before (before + section .lasts) (sounding isMessage (onsets 0 items) before section)
 
   abbrev EachRises : List Section → Type 0
@@ -42,19 +42,19 @@ module _ (items : Items) where
       (sounding isMessage (onsets 0 items) before section) (playedFrom isMessage (onsets 0 items) (before + section .lasts) sections)
       (each .0 before) (rw all at rest)
 
-  stream-each : (start : ℕ) (stop : Option ℕ) → Rises (streamSection items start stop)
+  pub stream-section-rises : (start : ℕ) (stop : Option ℕ) → Rises (streamSection items start stop)
   unfolding streamSection between
-  stream-each start none before = stream-rises before start items
-  stream-each start (some stop) before = between-rises before (timeOf items start) (timeOf items stop) items
+  stream-section-rises start none before = stream-rises before start items
+  stream-section-rises start (some stop) before = between-rises before (timeOf items start) (timeOf items stop) items
 
-  phrase-each : (addresses : Option Addresses) → Rises (phraseSection items addresses)
+  pub phrase-section-rises : (addresses : Option Addresses) → Rises (phraseSection items addresses)
   unfolding phraseSection between
-  phrase-each none before = between-rises before 0 0 items
-  phrase-each (some addresses) before = between-rises before (timeOf items (addresses .from)) (timeOf items (addresses .to)) items
+  phrase-section-rises none before = between-rises before 0 0 items
+  phrase-section-rises (some addresses) before = between-rises before (timeOf items (addresses .from)) (timeOf items (addresses .to)) items
 
   phrases-each : (entries : List (Placed Entry)) (letters : List ℕ) → EachRises (map (λ letter. phraseSection items (phraseOf letter entries)) letters)
   phrases-each entries [] = tt
-  phrases-each entries (letter ∷ letters) = (phrase-each (phraseOf letter entries), phrases-each entries letters)
+  phrases-each entries (letter ∷ letters) = (phrase-section-rises (phraseOf letter entries), phrases-each entries letters)
 
   order-each : (phrases : Bool) (entries : List (Placed Entry)) (sections : List Section) → orderOf phrases items entries ≡ some sections → EachRises sections
   unfolding orderOf phraseOrder
@@ -67,7 +67,7 @@ module _ (items : Items) where
           subst EachRises same (phrases-each entries (lettersPlayed entries letters))
   order-each false entries sections e =
       let same : streamSection items (startPoint entries otherwise 0) (stopPoint entries) ∷ [] ≡ sections = cc in
-      subst EachRises same (stream-each (startPoint entries otherwise 0) (stopPoint entries), tt)
+      subst EachRises same (stream-section-rises (startPoint entries otherwise 0) (stopPoint entries), tt)
 
 pub tune-rises : (track : Track) (sections : List Section) → playOrder track ≡ some sections
     → Rising 0 (tuneIn track sections .end) (tuneIn track sections .messages)

@@ -1,6 +1,6 @@
 -- `flattening::outlines::shape_letters` meets its contract.
 use mathlib.Core.Logic.{⊎-elim}
-use Rattle.flattening.proofs.Tables.{known-before, known-now}
+use Rattle.playing.proofs.Tables.{known-before, known-now}
 use borrow.Author.Needs.{needs}
 use Prim.Native.Nat.{_-_}
 use lib.ListN.{length}

@@ -7,8 +7,9 @@ use lib.ListN.{length}
 use native.Mathlib.Omega.{arith}
 use Rattle.model.specs.Bytes.{_!_}
 use Rattle.model.specs.Item.{itemsOf}
-use Rattle.playing.specs.Performing.{entriesSaid}
-use Rattle.playing.proofs.Planning.{Planning, Known, known-before, known-now, plan-starts, planning}
+use Rattle.playing.specs.Performing.{entriesSaid, noSpan}
+use Rattle.playing.proofs.Tables.{Known, known-before, known-now}
+use Rattle.playing.proofs.Planning.{SpanOf, Planning, plan-starts, planning}
 use Rattle.playing.proofs.letters.plan_letters.Statement.{statement}
 use Rattle.playing.proofs.letters.plan_letters.Tie as tie
 
@@ -53,13 +54,14 @@ abbrev started : tie.Joined1 Inv-loop μ-loop → tie.Start Inv-loop μ-loop
 started c = c .before .before .before .before .before .before .before .before
 
 letter-known : (c : tie.Joined1 Inv-loop μ-loop)
-    → Known (itemsOf (started c .args .voice) (started c .args .body .now)) (length (started c .args .body .now))
-    (entriesSaid true (started c .args .seek .now)) (started c .args .letters .now ! c .before .before .before .loop .i)
+    → Known noSpan
+    (SpanOf (itemsOf (started c .args .voice) (started c .args .body .now)) (length (started c .args .body .now)) (entriesSaid true (started c .args .seek .now)))
+    (started c .args .letters .now ! c .before .before .before .loop .i)
     (c .before .before .before .loop .known) (c .if1 .spans) (c .if1 .known)
 letter-known c =
     let inv = c .before .before .before .loop .inv in
-    ⊎-elim (λ w. known-now _ _ _ _ _ _ _ (inv .table) (inv .bytes _) (w .1 .ensures) _ _ (w .2) (w .3))
-    (λ w. known-before _ _ _ _ _ _ (inv .table) (w .0 .left) _ _ (w .1) (w .2)) (c .if1 .came)
+    ⊎-elim (λ w. known-now noSpan _ _ _ _ (inv .table) _ _ _ (inv .bytes _) (w .1 .ensures) (w .2) (w .3))
+    (λ w. known-before noSpan _ _ _ _ (inv .table) _ _ (w .0 .left) (w .1) (w .2)) (c .if1 .came)
 
 mul-span : tie.Need-mul-span Inv-loop μ-loop
 mul-span c = search (needs, planning)
