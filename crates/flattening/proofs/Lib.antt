@@ -11,3 +11,4 @@ pub mod Shaped
 pub mod Flattened
 pub mod TrackFlattened
 pub mod Operations
+pub mod Theorems

@@ -1,12 +1,14 @@
 // The probe: takes a row of cases on standard input and writes the answer to each, as text, on standard output, with a line that says
 // whether lent memory outside the answer was kept. A case is one byte for the operation, four numbers of four bytes (stated length, row
-// number, room, length of the buffer), and the buffer. It answers `r` (read), `p` (play) and `t` (pitch). A case that is cut, too large
+// number, room, length of the buffer), and the buffer. It answers `r` (read), `p` (play), `f` (flatten) and `t` (pitch). A case that is cut, too large
 // or of an unknown operation ends the run with the line `bad case`.
 mod messages;
+mod plain_forms;
 mod rows;
 
 use messages::answer_play;
 use model::Pitch;
+use plain_forms::answer_flatten;
 use rows::answer_read;
 use text::flush;
 use text::put;
@@ -65,6 +67,9 @@ fn is_known(operation: u8) -> bool {
         return true;
     }
     if operation == b'p' {
+        return true;
+    }
+    if operation == b'f' {
         return true;
     }
     operation == b't'
@@ -137,6 +142,28 @@ fn lend_to_play(
     )
 }
 
+fn lend_to_flatten(
+    page: &mut [u8],
+    used: usize,
+    case: Case,
+    buffer: &[u8],
+    bytes: &mut [u8],
+) -> usize {
+    let size = case.size as usize;
+    let room = case.room as usize;
+    if buffer.len() < size || bytes.len() < room {
+        return used;
+    }
+    answer_flatten(
+        page,
+        used,
+        &buffer[..size],
+        case.stated,
+        case.row,
+        &mut bytes[..room],
+    )
+}
+
 // The answer to a good case.
 fn answer(
     page: &mut [u8],
@@ -145,6 +172,7 @@ fn answer(
     buffer: &[u8],
     table: &mut [u32],
     steps: &mut [u64],
+    bytes: &mut [u8],
 ) -> usize {
     if case.operation == b'r' {
         return lend_to_read(page, used, case, buffer, table);
@@ -152,11 +180,20 @@ fn answer(
     if case.operation == b'p' {
         return lend_to_play(page, used, case, buffer, table, steps);
     }
+    if case.operation == b'f' {
+        return lend_to_flatten(page, used, case, buffer, bytes);
+    }
     let used = answer_pitch(page, used, case.stated, case.row);
     put(page, used, b"-- kept\n")
 }
 
-fn run(page: &mut [u8], buffer: &mut [u8], table: &mut [u32], steps: &mut [u64]) {
+fn run(
+    page: &mut [u8],
+    buffer: &mut [u8],
+    table: &mut [u32],
+    steps: &mut [u64],
+    bytes: &mut [u8],
+) {
     let mut used: usize = 0;
     let mut turns: u32 = 0;
     while turns < 1_000_000_000 {
@@ -171,7 +208,7 @@ fn run(page: &mut [u8], buffer: &mut [u8], table: &mut [u32], steps: &mut [u64])
             flush(page, used);
             return;
         }
-        used = answer(page, used, case, buffer, table, steps);
+        used = answer(page, used, case, buffer, table, steps, bytes);
     }
     flush(page, used);
 }
@@ -181,5 +218,6 @@ fn main() {
     let mut buffer = [0u8; 70000];
     let mut table = [0u32; 280000];
     let mut steps = [0u64; 70000];
-    run(&mut page, &mut buffer, &mut table, &mut steps);
+    let mut bytes = [0u8; 70000];
+    run(&mut page, &mut buffer, &mut table, &mut steps, &mut bytes);
 }

@@ -1,10 +1,9 @@
+-- `probe::messages::is_kept_from` meets its contract.
 use borrow.Author.Needs.{needs}
 use Prim.Native.Nat.{_≤_, _-_}
 use lib.ListN.{length}
 use Rattle.probe.proofs.messages.is_kept_from.Statement.{statement}
 use Rattle.probe.proofs.messages.is_kept_from.Tie as tie
-use Rattle.probe.proofs.messages.is_kept_from.Reads as reads
-use Rattle.probe.proofs.messages.is_kept_from.Lts as lts
 
 abbrev Inv-loop : tie.InvT-loop
 Inv-loop steps row i₀ i = row ≤ i
@@ -12,35 +11,27 @@ Inv-loop steps row i₀ i = row ≤ i
 abbrev μ-loop : tie.MeasureT-loop
 μ-loop steps row i₀ i = length steps - i
 
--- src/messages.rt:26:5
 loop-holds : tie.Need-loop-holds Inv-loop μ-loop
 loop-holds c = search needs
 
--- src/messages.rt:27:12
 mul-if1 : tie.Need-mul-if1 Inv-loop μ-loop
 mul-if1 c = search needs
 
--- src/messages.rt:27:12
 shared-slice-read-if1 : tie.Need-shared-slice-read-if1 Inv-loop μ-loop
 shared-slice-read-if1 c = search needs
 
--- src/messages.rt:28:13
 returns : tie.Need-returns Inv-loop μ-loop
 returns c = search needs
 
--- src/messages.rt:30:9
 add-i : tie.Need-add-i Inv-loop μ-loop
 add-i c = search needs
 
--- src/messages.rt:26:5
 loop-less : tie.Need-loop-less Inv-loop μ-loop
 loop-less c = search needs
 
--- src/messages.rt:26:5
 loop-again : tie.Need-loop-again Inv-loop μ-loop
 loop-again c = search needs
 
--- src/messages.rt:24:1
 returns-2 : tie.Need-returns-2 Inv-loop μ-loop
 returns-2 c = search needs
 

@@ -1,12 +1,10 @@
+-- `probe::messages::put_messages` meets its contract.
 use borrow.Author.Needs.{needs}
 use Prim.Native.Nat.{_≤_, _-_}
 use mathlib.Core.Path.{_≡_}
 use lib.ListN.{length}
 use Rattle.probe.proofs.messages.put_messages.Statement.{statement}
 use Rattle.probe.proofs.messages.put_messages.Tie as tie
-use Rattle.probe.proofs.messages.put_messages.Reads as reads
-use Rattle.probe.proofs.messages.put_messages.Lts as lts
-use Rattle.probe.proofs.messages.put_message.Reads as put-message-reads
 
 abbrev Inv-loop : tie.InvT-loop
 Inv-loop page₀ used steps words rows now₀ row₀ page now row = (row ≤ rows) × (length page ≡ length page₀)
@@ -14,55 +12,42 @@ Inv-loop page₀ used steps words rows now₀ row₀ page now row = (row ≤ row
 abbrev μ-loop : tie.MeasureT-loop
 μ-loop page₀ used steps words rows now₀ row₀ page now row = rows - row
 
--- src/messages.rt:45:5
 loop-holds : tie.Need-loop-holds Inv-loop μ-loop
 loop-holds c = search needs
 
--- src/messages.rt:47:13
 same-length : tie.Need-same-length Inv-loop μ-loop
 same-length c = search needs
 
--- src/messages.rt:47:13
 returns : tie.Need-returns Inv-loop μ-loop
 returns c = search needs
 
--- src/messages.rt:49:38
 mul-put-message : tie.Need-mul-put-message Inv-loop μ-loop
 mul-put-message c = search needs
 
--- src/messages.rt:49:38
 shared-slice-read-put-message : tie.Need-shared-slice-read-put-message Inv-loop μ-loop
 shared-slice-read-put-message c = search needs
 
--- src/messages.rt:49:50
 mul-put-message-2 : tie.Need-mul-put-message-2 Inv-loop μ-loop
 mul-put-message-2 c = search needs
 
--- src/messages.rt:49:50
 shared-slice-read-put-message-2 : tie.Need-shared-slice-read-put-message-2 Inv-loop μ-loop
 shared-slice-read-put-message-2 c = search needs
 
--- src/messages.rt:49:9
 put-message-requires : tie.Need-put-message-requires Inv-loop μ-loop
 put-message-requires c κs = search needs
 
--- src/messages.rt:50:9
 add-row : tie.Need-add-row Inv-loop μ-loop
 add-row c = search needs
 
--- src/messages.rt:45:5
 loop-less : tie.Need-loop-less Inv-loop μ-loop
 loop-less c = search needs
 
--- src/messages.rt:45:5
 loop-again : tie.Need-loop-again Inv-loop μ-loop
 loop-again c = search needs
 
--- src/messages.rt:42:1
 same-length-2 : tie.Need-same-length-2 Inv-loop μ-loop
 same-length-2 c = search needs
 
--- src/messages.rt:42:1
 returns-2 : tie.Need-returns-2 Inv-loop μ-loop
 returns-2 c = search needs
 
