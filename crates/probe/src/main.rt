@@ -187,13 +187,7 @@ fn answer(
     put(page, used, b"-- kept\n")
 }
 
-fn run(
-    page: &mut [u8],
-    buffer: &mut [u8],
-    table: &mut [u32],
-    steps: &mut [u64],
-    bytes: &mut [u8],
-) {
+fn run(page: &mut [u8], buffer: &mut [u8], table: &mut [u32], steps: &mut [u64], bytes: &mut [u8]) {
     let mut used: usize = 0;
     let mut turns: u32 = 0;
     while turns < 1_000_000_000 {

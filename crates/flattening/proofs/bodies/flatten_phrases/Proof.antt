@@ -1,9 +1,9 @@
--- `flattening::tracks::flatten_phrases` meets its contract.
+-- `flattening::bodies::flatten_phrases` meets its contract.
 use Rattle.flattening.proofs.TrackFlattened.{track-flattened}
 use Rattle.playing.proofs.Orders.{orders}
 use borrow.Author.Needs.{needs}
-use Rattle.flattening.proofs.tracks.flatten_phrases.Statement.{statement}
-use Rattle.flattening.proofs.tracks.flatten_phrases.Tie as tie
+use Rattle.flattening.proofs.bodies.flatten_phrases.Statement.{statement}
+use Rattle.flattening.proofs.bodies.flatten_phrases.Tie as tie
 
 points-of-requires : tie.Need-points-of-requires
 points-of-requires c κs = search needs

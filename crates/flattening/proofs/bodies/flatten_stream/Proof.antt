@@ -1,8 +1,8 @@
--- `flattening::tracks::flatten_stream` meets its contract.
+-- `flattening::bodies::flatten_stream` meets its contract.
 use Rattle.flattening.proofs.TrackFlattened.{track-flattened}
 use borrow.Author.Needs.{needs}
-use Rattle.flattening.proofs.tracks.flatten_stream.Statement.{statement}
-use Rattle.flattening.proofs.tracks.flatten_stream.Tie as tie
+use Rattle.flattening.proofs.bodies.flatten_stream.Statement.{statement}
+use Rattle.flattening.proofs.bodies.flatten_stream.Tie as tie
 
 span-of-stream-requires : tie.Need-span-of-stream-requires
 span-of-stream-requires c κs = search needs

@@ -1,8 +1,8 @@
--- `flattening::tracks::flatten_letters` meets its contract.
+-- `flattening::bodies::flatten_letters` meets its contract.
 use Rattle.flattening.proofs.TrackFlattened.{track-flattened}
 use borrow.Author.Needs.{needs}
-use Rattle.flattening.proofs.tracks.flatten_letters.Statement.{statement}
-use Rattle.flattening.proofs.tracks.flatten_letters.Tie as tie
+use Rattle.flattening.proofs.bodies.flatten_letters.Statement.{statement}
+use Rattle.flattening.proofs.bodies.flatten_letters.Tie as tie
 
 plan-letters-requires : tie.Need-plan-letters-requires
 plan-letters-requires c κs = search needs
