@@ -1,0 +1,22 @@
+-- `smaf_c::play::play_reply` meets its contract.
+use Rattle.smaf_c.specs.Replies.{playReply}
+use borrow.Author.Needs.{needs}
+use Rattle.smaf_c.proofs.play.play_reply.Statement.{statement}
+use Rattle.smaf_c.proofs.play.play_reply.Tie as tie
+
+enum-known-answer : tie.Need-enum-known-answer
+enum-known-answer c = search needs
+
+enum-known-answer-2 : tie.Need-enum-known-answer-2
+enum-known-answer-2 c = search needs
+
+returns : tie.Need-returns
+unfolding playReply
+returns c = cc
+
+returns-2 : tie.Need-returns-2
+unfolding playReply
+returns-2 c = cc
+
+pub play-reply-spec : {M : Type 1} → statement M
+play-reply-spec = tie.close (tie.spec enum-known-answer enum-known-answer-2 returns returns-2)

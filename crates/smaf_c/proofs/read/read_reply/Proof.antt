@@ -1,0 +1,22 @@
+-- `smaf_c::read::read_reply` meets its contract.
+use Rattle.smaf_c.specs.Replies.{readReply}
+use borrow.Author.Needs.{needs}
+use Rattle.smaf_c.proofs.read.read_reply.Statement.{statement}
+use Rattle.smaf_c.proofs.read.read_reply.Tie as tie
+
+enum-known-answer : tie.Need-enum-known-answer
+enum-known-answer c = search needs
+
+enum-known-answer-2 : tie.Need-enum-known-answer-2
+enum-known-answer-2 c = search needs
+
+returns : tie.Need-returns
+unfolding readReply
+returns c = cc
+
+returns-2 : tie.Need-returns-2
+unfolding readReply
+returns-2 c = cc
+
+pub read-reply-spec : {M : Type 1} → statement M
+read-reply-spec = tie.close (tie.spec enum-known-answer enum-known-answer-2 returns returns-2)

@@ -1,0 +1,19 @@
+-- `smaf_c::read::smaf_read` meets its contract.
+use borrow.Author.Needs.{needs}
+use Rattle.smaf_c.proofs.read.smaf_read.Statement.{statement}
+use Rattle.smaf_c.proofs.read.smaf_read.Tie as tie
+
+read-requires : tie.Need-read-requires
+read-requires c κs = search needs
+
+read-reply-requires : tie.Need-read-reply-requires
+read-reply-requires c κs = search needs
+
+same-length : tie.Need-same-length
+same-length c = search needs
+
+returns : tie.Need-returns
+returns c = (cc, cc)
+
+pub smaf-read-spec : {M : Type 1} → statement M
+smaf-read-spec = tie.close (tie.spec read-requires read-reply-requires same-length returns)

@@ -1,0 +1,24 @@
+-- What C gets for each answer of an operation: 0 and 0 with the values of an accepted call, or a refusal's number and place with all else 0.
+use mathlib.Core.Bool.{false}
+use lib.IntN.{pos}
+use Rattle.model.specs.declared.ReadAnswer.{ReadAnswer}
+use Rattle.model.specs.declared.ReadAnswer.the-variants as read
+use Rattle.model.specs.declared.PlayAnswer.{PlayAnswer}
+use Rattle.model.specs.declared.PlayAnswer.the-variants as play
+use Rattle.model.specs.declared.Pitch.{Pitch}
+use Rattle.model.specs.declared.Pitch.the-variants as pitch
+use Rattle.smaf_c.specs.declared.read.ReadReply.{ReadReply}
+use Rattle.smaf_c.specs.declared.play.PlayReply.{PlayReply}
+use Rattle.smaf_c.specs.declared.note_pitch.PitchReply.{PitchReply}
+
+unfoldable pub readReply : ReadAnswer → ReadReply
+readReply (read.Rows count code matches) = record { refusal = 0; place = 0; count = count; code = code; matches = matches }
+readReply (read.Refused number place) = record { refusal = number; place = place; count = 0; code = 0; matches = false }
+
+unfoldable pub playReply : PlayAnswer → PlayReply
+playReply (play.Rows count end) = record { refusal = 0; place = 0; count = count; end = end }
+playReply (play.Refused number place) = record { refusal = number; place = place; count = 0; end = 0 }
+
+unfoldable pub pitchReply : Pitch → PitchReply
+pitchReply (pitch.Semitones above) = record { refusal = 0; place = 0; semitones = above }
+pitchReply (pitch.Refused number place) = record { refusal = number; place = place; semitones = pos 0 }
