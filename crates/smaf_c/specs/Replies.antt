@@ -5,10 +5,13 @@ use Rattle.model.specs.declared.ReadAnswer.{ReadAnswer}
 use Rattle.model.specs.declared.ReadAnswer.the-variants as read
 use Rattle.model.specs.declared.PlayAnswer.{PlayAnswer}
 use Rattle.model.specs.declared.PlayAnswer.the-variants as play
+use Rattle.model.specs.declared.FlattenAnswer.{FlattenAnswer}
+use Rattle.model.specs.declared.FlattenAnswer.the-variants as flatten
 use Rattle.model.specs.declared.Pitch.{Pitch}
 use Rattle.model.specs.declared.Pitch.the-variants as pitch
 use Rattle.smaf_c.specs.declared.read.ReadReply.{ReadReply}
 use Rattle.smaf_c.specs.declared.play.PlayReply.{PlayReply}
+use Rattle.smaf_c.specs.declared.flatten.FlattenReply.{FlattenReply}
 use Rattle.smaf_c.specs.declared.note_pitch.PitchReply.{PitchReply}
 
 unfoldable pub readReply : ReadAnswer → ReadReply
@@ -18,6 +21,10 @@ readReply (read.Refused number place) = record { refusal = number; place = place
 unfoldable pub playReply : PlayAnswer → PlayReply
 playReply (play.Rows count end) = record { refusal = 0; place = 0; count = count; end = end }
 playReply (play.Refused number place) = record { refusal = number; place = place; count = 0; end = 0 }
+
+unfoldable pub flattenReply : FlattenAnswer → FlattenReply
+flattenReply (flatten.Bytes length) = record { refusal = 0; place = 0; length = length }
+flattenReply (flatten.Refused number place) = record { refusal = number; place = place; length = 0 }
 
 unfoldable pub pitchReply : Pitch → PitchReply
 pitchReply (pitch.Semitones above) = record { refusal = 0; place = 0; semitones = above }

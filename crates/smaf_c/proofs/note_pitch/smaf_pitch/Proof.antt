@@ -1,5 +1,7 @@
 -- `smaf_c::note_pitch::smaf_pitch` meets its contract.
 use borrow.Author.Needs.{needs}
+use mathlib.Core.Path.{ap, _∙_}
+use Rattle.smaf_c.specs.Replies.{pitchReply}
 use Rattle.smaf_c.proofs.note_pitch.smaf_pitch.Statement.{statement}
 use Rattle.smaf_c.proofs.note_pitch.smaf_pitch.Tie as tie
 
@@ -10,7 +12,7 @@ pitch-reply-requires : tie.Need-pitch-reply-requires
 pitch-reply-requires c κs = search needs
 
 returns : tie.Need-returns
-returns c = cc
+returns c = c .pitch-reply .ensures ∙ ap pitchReply (c .before .pitch-of .ensures)
 
 pub smaf-pitch-spec : {M : Type 1} → statement M
 smaf-pitch-spec = tie.close (tie.spec pitch-of-requires pitch-reply-requires returns)

@@ -1,6 +1,7 @@
 -- `smaf_c::play::play_reply` meets its contract.
 use Rattle.smaf_c.specs.Replies.{playReply}
 use borrow.Author.Needs.{needs}
+use mathlib.Core.Path.{sym, ap}
 use Rattle.smaf_c.proofs.play.play_reply.Statement.{statement}
 use Rattle.smaf_c.proofs.play.play_reply.Tie as tie
 
@@ -12,11 +13,11 @@ enum-known-answer-2 c = search needs
 
 returns : tie.Need-returns
 unfolding playReply
-returns c = cc
+returns c = sym (ap playReply (c .before .answer .given .1))
 
 returns-2 : tie.Need-returns-2
 unfolding playReply
-returns-2 c = cc
+returns-2 c = sym (ap playReply (c .before .answer2 .given .1))
 
 pub play-reply-spec : {M : Type 1} → statement M
 play-reply-spec = tie.close (tie.spec enum-known-answer enum-known-answer-2 returns returns-2)

@@ -1,5 +1,7 @@
 -- `smaf_c::play::smaf_play` meets its contract.
 use borrow.Author.Needs.{needs}
+use mathlib.Core.Path.{ap, _∙_}
+use Rattle.smaf_c.specs.Replies.{playReply}
 use Rattle.smaf_c.proofs.play.smaf_play.Statement.{statement}
 use Rattle.smaf_c.proofs.play.smaf_play.Tie as tie
 
@@ -16,7 +18,9 @@ same-length-2 : tie.Need-same-length-2
 same-length-2 c = search needs
 
 returns : tie.Need-returns
-returns c = (cc, (cc, cc))
+returns c =
+    let after = c .before .before .before .before .before in
+    (c .play-reply .ensures ∙ ap playReply (after .play .ensures .0), after .play .ensures .1)
 
 pub smaf-play-spec : {M : Type 1} → statement M
 smaf-play-spec =

@@ -1,5 +1,7 @@
 -- `smaf_c::read::smaf_read` meets its contract.
 use borrow.Author.Needs.{needs}
+use mathlib.Core.Path.{ap, _∙_}
+use Rattle.smaf_c.specs.Replies.{readReply}
 use Rattle.smaf_c.proofs.read.smaf_read.Statement.{statement}
 use Rattle.smaf_c.proofs.read.smaf_read.Tie as tie
 
@@ -13,7 +15,9 @@ same-length : tie.Need-same-length
 same-length c = search needs
 
 returns : tie.Need-returns
-returns c = (cc, cc)
+returns c =
+    let after = c .before .before .before in
+    (c .read-reply .ensures ∙ ap readReply (after .read .ensures .0), after .read .ensures .1)
 
 pub smaf-read-spec : {M : Type 1} → statement M
 smaf-read-spec = tie.close (tie.spec read-requires read-reply-requires same-length returns)

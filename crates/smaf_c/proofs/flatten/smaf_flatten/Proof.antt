@@ -1,0 +1,23 @@
+-- `smaf_c::flatten::smaf_flatten` meets its contract.
+use borrow.Author.Needs.{needs}
+use mathlib.Core.Path.{ap, _∙_}
+use Rattle.smaf_c.specs.Replies.{flattenReply}
+use Rattle.smaf_c.proofs.flatten.smaf_flatten.Statement.{statement}
+use Rattle.smaf_c.proofs.flatten.smaf_flatten.Tie as tie
+
+flatten-requires : tie.Need-flatten-requires
+flatten-requires c κs = search needs
+
+flatten-reply-requires : tie.Need-flatten-reply-requires
+flatten-reply-requires c κs = search needs
+
+same-length : tie.Need-same-length
+same-length c = search needs
+
+returns : tie.Need-returns
+returns c =
+    let after = c .before .before .before in
+    (c .flatten-reply .ensures ∙ ap flattenReply (after .flatten .ensures .0), after .flatten .ensures .1)
+
+pub smaf-flatten-spec : {M : Type 1} → statement M
+smaf-flatten-spec = tie.close (tie.spec flatten-requires flatten-reply-requires same-length returns)
