@@ -20,8 +20,8 @@
  * - While a call runs, nothing else writes to its buffer, and nothing else uses its outputs. Calls on other memory may run beside it.
  * - There is stack for the call: 128 KiB is enough.
  *
- * REFUSALS, in the order in which they are tried, and their places. Each track in turn is tried for 8, its chunk list for 4, 9 and 6, and so on
- * to 14.
+ * REFUSALS and their places, in the order in which they are tried: first the file's own chunk list; then each track in file order, from 8 on,
+ * its chunk list for 4, 9 and 6 before the rest of 9.
  *
  *    1  n is over buffer_length, or over 65,536                              0
  *    2  n is below 10, or the first four bytes are not MMMD                  0

@@ -37,8 +37,8 @@ static void put_kept(bool kept)
     puts(kept ? "-- kept" : "-- spoilt");
 }
 
-/* Where a call is refused its other fields are 0, and where it is accepted its place is. */
-static void put_place(bool zeros, uint32_t refusal, size_t place)
+/* The refusal, where there is one. Its other fields are then 0; where there is none, its place is. */
+static void put_refusal(bool zeros, uint32_t refusal, size_t place)
 {
     if (!zeros)
         puts("a field that should be 0 is not");
@@ -51,7 +51,7 @@ static void answer_read(struct test_case asked)
     size_t numbers = 4 * (size_t)asked.room;
     memset(rows, BLANK, numbers * sizeof rows[0]);
     struct smaf_read_reply reply = smaf_read(buffer, asked.length, asked.stated, rows, numbers);
-    put_place(reply.refusal == 0 ? reply.place == 0 : reply.count == 0 && reply.code == 0 && !reply.matches, reply.refusal, reply.place);
+    put_refusal(reply.refusal == 0 ? reply.place == 0 : reply.count == 0 && reply.code == 0 && !reply.matches, reply.refusal, reply.place);
     if (reply.refusal == 0)
         printf("rows %zu code %04x verdict %s\n", reply.count, (unsigned)reply.code, reply.matches ? "yes" : "no");
     for (size_t at = 0; at < 4 * reply.count && at < numbers; at += 4)
@@ -65,7 +65,7 @@ static void answer_play(struct test_case asked)
     memset(words, BLANK, asked.room * sizeof words[0]);
     struct smaf_play_reply reply =
         smaf_play(buffer, asked.length, asked.stated, asked.row, steps, asked.room, words, asked.room);
-    put_place(reply.refusal == 0 ? reply.place == 0 : reply.count == 0 && reply.end == 0, reply.refusal, reply.place);
+    put_refusal(reply.refusal == 0 ? reply.place == 0 : reply.count == 0 && reply.end == 0, reply.refusal, reply.place);
     if (reply.refusal == 0)
         printf("rows %zu end %" PRIu64 "\n", reply.count, reply.end);
     for (size_t at = 0; at < reply.count && at < asked.room; at++)
@@ -78,7 +78,7 @@ static void answer_flatten(struct test_case asked)
 {
     memset(room, BLANK, asked.room);
     struct smaf_flatten_reply reply = smaf_flatten(buffer, asked.length, asked.stated, asked.row, room, asked.room);
-    put_place(reply.refusal == 0 ? reply.place == 0 : reply.length == 0, reply.refusal, reply.place);
+    put_refusal(reply.refusal == 0 ? reply.place == 0 : reply.length == 0, reply.refusal, reply.place);
     if (reply.refusal == 0) {
         printf("bytes %zu\n", reply.length);
         for (size_t at = 0; at < reply.length && at < asked.room; at++)
@@ -91,7 +91,7 @@ static void answer_flatten(struct test_case asked)
 static void answer_pitch(struct test_case asked)
 {
     struct smaf_pitch_reply reply = smaf_pitch((uint8_t)asked.stated, (uint8_t)asked.row);
-    put_place(reply.refusal == 0 ? reply.place == 0 : reply.semitones == 0, reply.refusal, reply.place);
+    put_refusal(reply.refusal == 0 ? reply.place == 0 : reply.semitones == 0, reply.refusal, reply.place);
     if (reply.refusal == 0)
         printf("pitch %lld\n", (long long)reply.semitones);
     put_kept(true);

@@ -1,4 +1,5 @@
-// FLATTEN for C.
+// FLATTEN for C. The struct equals flattenReply of what flattening::flatten answers, and the room is what that promises, for any buffer,
+// length, row and room.
 ghost use mathlib.Core.Path.{_≡_};
 ghost use lib.ListN.{length};
 ghost use Rattle.model.specs.Answer.{flattenOf, flattenAnswer, flattenRoom};

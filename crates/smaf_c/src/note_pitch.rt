@@ -1,4 +1,4 @@
-// A note's pitch for C.
+// A note's pitch for C. The struct equals pitchReply of what pitch::pitch_of answers, for any two bytes.
 ghost use mathlib.Core.Path.{_≡_};
 ghost use Rattle.model.specs.Pitch.{pitchOf};
 ghost use Rattle.smaf_c.specs.Replies.{pitchReply};

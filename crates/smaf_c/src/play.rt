@@ -1,4 +1,5 @@
-// PLAY for C.
+// PLAY for C. The struct equals playReply of what playing::play answers, and the tables are what that promises, for any buffer, length, row
+// and tables.
 ghost use mathlib.Core.Path.{_≡_};
 ghost use Prim.Native.Nat.{min};
 ghost use lib.ListN.{length};

@@ -1,4 +1,5 @@
-// READ for C.
+// READ for C. The struct equals readReply of what reading::read answers, and the table is what that promises, for any buffer, length and
+// table.
 ghost use mathlib.Core.Path.{_≡_};
 ghost use lib.ListN.{length};
 ghost use Rattle.model.specs.Answer.{readOf, readAnswer, readTable};

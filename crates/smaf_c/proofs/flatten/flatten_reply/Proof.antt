@@ -1,4 +1,4 @@
--- `smaf_c::flatten::flatten_reply` meets its contract.
+-- `smaf_c::flatten::flatten_reply` meets its contract, case by case.
 use Rattle.smaf_c.specs.Replies.{flattenReply}
 use borrow.Author.Needs.{needs}
 use mathlib.Core.Path.{sym, ap}

@@ -1,4 +1,4 @@
--- `smaf_c::flatten::smaf_flatten` meets its contract.
+-- `smaf_c::flatten::smaf_flatten` meets its contract: by what `flatten_reply` ensures of the answer, and what `flatten` ensures of answer and memory.
 use borrow.Author.Needs.{needs}
 use mathlib.Core.Path.{ap, _∙_}
 use Rattle.smaf_c.specs.Replies.{flattenReply}
@@ -16,8 +16,8 @@ same-length c = search needs
 
 returns : tie.Need-returns
 returns c =
-    let after = c .before .before .before in
-    (c .flatten-reply .ensures ∙ ap flattenReply (after .flatten .ensures .0), after .flatten .ensures .1)
+    let called = c .before .before .before in
+    (c .flatten-reply .ensures ∙ ap flattenReply (called .flatten .ensures .0), called .flatten .ensures .1)
 
 pub smaf-flatten-spec : {M : Type 1} → statement M
 smaf-flatten-spec = tie.close (tie.spec flatten-requires flatten-reply-requires same-length returns)

@@ -1,4 +1,4 @@
--- `smaf_c::note_pitch::smaf_pitch` meets its contract.
+-- `smaf_c::note_pitch::smaf_pitch` meets its contract: by what `pitch_reply` and `pitch_of` ensure.
 use borrow.Author.Needs.{needs}
 use mathlib.Core.Path.{ap, _∙_}
 use Rattle.smaf_c.specs.Replies.{pitchReply}

@@ -1,4 +1,4 @@
--- `smaf_c::play::smaf_play` meets its contract.
+-- `smaf_c::play::smaf_play` meets its contract: by what `play_reply` ensures of the answer, and what `play` ensures of answer and memory.
 use borrow.Author.Needs.{needs}
 use mathlib.Core.Path.{ap, _∙_}
 use Rattle.smaf_c.specs.Replies.{playReply}
@@ -19,8 +19,8 @@ same-length-2 c = search needs
 
 returns : tie.Need-returns
 returns c =
-    let after = c .before .before .before .before .before in
-    (c .play-reply .ensures ∙ ap playReply (after .play .ensures .0), after .play .ensures .1)
+    let called = c .before .before .before .before .before in
+    (c .play-reply .ensures ∙ ap playReply (called .play .ensures .0), called .play .ensures .1)
 
 pub smaf-play-spec : {M : Type 1} → statement M
 smaf-play-spec =

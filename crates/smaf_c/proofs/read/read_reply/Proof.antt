@@ -1,4 +1,4 @@
--- `smaf_c::read::read_reply` meets its contract.
+-- `smaf_c::read::read_reply` meets its contract, case by case.
 use Rattle.smaf_c.specs.Replies.{readReply}
 use borrow.Author.Needs.{needs}
 use mathlib.Core.Path.{sym, ap}

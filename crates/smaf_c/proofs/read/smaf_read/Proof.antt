@@ -1,4 +1,4 @@
--- `smaf_c::read::smaf_read` meets its contract.
+-- `smaf_c::read::smaf_read` meets its contract: by what `read_reply` ensures of the answer, and what `read` ensures of answer and memory.
 use borrow.Author.Needs.{needs}
 use mathlib.Core.Path.{ap, _∙_}
 use Rattle.smaf_c.specs.Replies.{readReply}
@@ -16,8 +16,8 @@ same-length c = search needs
 
 returns : tie.Need-returns
 returns c =
-    let after = c .before .before .before in
-    (c .read-reply .ensures ∙ ap readReply (after .read .ensures .0), after .read .ensures .1)
+    let called = c .before .before .before in
+    (c .read-reply .ensures ∙ ap readReply (called .read .ensures .0), called .read .ensures .1)
 
 pub smaf-read-spec : {M : Type 1} → statement M
 smaf-read-spec = tie.close (tie.spec read-requires read-reply-requires same-length returns)
