@@ -3,10 +3,11 @@
 #define STDIO_H
 #include <stddef.h>
 typedef struct _IO_FILE FILE;
-extern FILE *stdin, *stderr;
+extern FILE *stdin, *stdout, *stderr;
 FILE *fopen(const char *name, const char *mode);
 int fclose(FILE *file);
 size_t fread(void *memory, size_t size, size_t count, FILE *file);
+int fflush(FILE *file);
 int feof(FILE *file);
 int ferror(FILE *file);
 int fprintf(FILE *file, const char *form, ...);

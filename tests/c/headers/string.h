@@ -3,4 +3,6 @@
 #define STRING_H
 #include <stddef.h>
 void *memset(void *memory, int byte, size_t length);
+int memcmp(const void *one, const void *other, size_t size);
+void *memcpy(void *to, const void *from, size_t size);
 #endif

@@ -1,0 +1,230 @@
+/* Runs the proved operations and those of the baseline on the same files in turn, sees to it that they answer the same, and prints for
+ * each task the microseconds of both and their ratio. The time of a task is the least of many rounds. */
+#include <stdio.h>
+#include <string.h>
+#include <time.h>
+
+#include "baseline.h"
+
+enum { LARGEST = 65536, ROWS = 8192, MESSAGES = 70000, ROUNDS = 60 };
+
+/* What one side is lent, and what it answers. */
+struct side {
+    uint32_t rows[4 * ROWS];
+    uint64_t steps[MESSAGES];
+    uint32_t words[MESSAGES];
+    uint8_t room[LARGEST];
+    size_t refusal, place, count, end;
+};
+static struct side ours, theirs;
+
+static uint8_t file[LARGEST];
+static size_t length;
+
+/* FILES */
+
+static void put(const void *bytes, size_t many) {
+    memcpy(file + length, bytes, many);
+    length += many;
+}
+
+static void put_byte(unsigned byte) { file[length++] = (uint8_t)byte; }
+
+static void put_number(size_t number) {
+    for (int shift = 24; shift >= 0; shift -= 8)
+        put_byte(number >> shift & 255);
+}
+
+/* Writes a chunk's header with no size yet; answers where its body begins. */
+static size_t begin(const char *id, unsigned last) {
+    put(id, 3);
+    put_byte(last);
+    put_number(0);
+    return length;
+}
+
+static void end(size_t body) {
+    size_t past = length;
+    length = body - 4;
+    put_number(past - body);
+    length = past;
+}
+
+static size_t begin_file(void) {
+    length = 0;
+    size_t body = begin("MMM", 'D');
+    put_byte('C'), put_byte('N'), put_byte('T'), put_byte('I');
+    put_number(5);
+    put("\0\0\0\0\0", 5);
+    return body;
+}
+
+static void end_file(size_t body) {
+    length += 2;
+    end(body);
+    uint16_t code = base_check_code(file, length - 2);
+    file[length - 2] = (uint8_t)(code >> 8);
+    file[length - 1] = (uint8_t)code;
+}
+
+static size_t begin_track(int phrases) {
+    size_t body = begin("MTR", 0);
+    put_byte(0), put_byte((unsigned)phrases), put_byte(2), put_byte(2), put_byte(0), put_byte(0);
+    return body;
+}
+
+static uint32_t state;
+static uint32_t any(uint32_t many) {
+    state = state * 1664525u + 1013904223u;
+    return (state >> 8) % many;
+}
+
+/* A note, now and then a program, a volume or a short form: three bytes each, duration and all, but for a few. */
+static void put_item(void) {
+    put_byte(any(24) + 1);
+    if (any(16) == 0)
+        put_byte(0), put_byte(any(4) << 6 | (any(2) ? 0x37 : 0x30)), put_byte(any(128));
+    else if (any(16) == 0)
+        put_byte(0), put_byte(any(4) << 6 | any(3) << 4 | (any(14) + 1));
+    else
+        put_byte(any(4) << 6 | any(3) << 4 | (any(12) + 1)), put_byte(any(100) + 1);
+}
+
+/* A stream of so many items, or as many as have room in so many bytes. */
+static void stream(size_t items, size_t bytes) {
+    state = 1;
+    size_t body = begin_file(), track = begin_track(0), sequence = begin("Mts", 'q');
+    for (size_t i = 0; i < items && length + 8 < bytes; i++)
+        put_item();
+    end(sequence);
+    end(track);
+    end_file(body);
+}
+
+/* A track of eight phrases of so many items each, played in an order of so many letters. */
+static void order(size_t items, size_t letters) {
+    static size_t borders[9];
+    state = 2;
+    size_t body = begin_file(), track = begin_track(1), sequence = begin("Mts", 'q');
+    for (int p = 0; p < 8; p++) {
+        borders[p] = length - sequence;
+        for (size_t i = 0; i < items; i++)
+            put_item();
+    }
+    borders[8] = length - sequence;
+    end(sequence);
+    size_t seek = begin("Msp", 'I');
+    for (int p = 0; p < 8; p++) {
+        put_byte('P'), put_byte('a' + (unsigned)p), put_byte(':');
+        put_number(borders[p]), put_number(borders[p + 1]);
+        put_byte(',');
+    }
+    put("SL:", 3);
+    for (size_t i = 0; i < letters; i++)
+        put_byte('a' + any(8));
+    end(seek);
+    end(track);
+    end_file(body);
+}
+
+static void chunks(size_t many) {
+    size_t body = begin_file(), track = begin_track(0), sequence = begin("Mts", 'q');
+    put("\0\0\0\0", 4);
+    end(sequence);
+    end(track);
+    for (size_t i = 0; i < many; i++) {
+        put_number(0x58000000 + i * 40503);
+        put_number(0);
+    }
+    end_file(body);
+}
+
+/* TASKS */
+
+static void read_ours(void) {
+    struct smaf_read_reply r = smaf_read(file, length, length, ours.rows, 4 * ROWS);
+    ours.refusal = r.refusal, ours.place = r.place, ours.count = r.count, ours.end = (size_t)r.code << 1 | r.matches;
+}
+static void read_theirs(void) {
+    struct smaf_read_reply r = base_read(file, length, length, theirs.rows, 4 * ROWS);
+    theirs.refusal = r.refusal, theirs.place = r.place, theirs.count = r.count, theirs.end = (size_t)r.code << 1 | r.matches;
+}
+static void play_ours(void) {
+    struct smaf_play_reply r = smaf_play(file, length, length, 2, ours.steps, MESSAGES, ours.words, MESSAGES);
+    ours.refusal = r.refusal, ours.place = r.place, ours.count = r.count, ours.end = r.end;
+}
+static void play_theirs(void) {
+    struct smaf_play_reply r = base_play(file, length, length, 2, theirs.steps, MESSAGES, theirs.words, MESSAGES);
+    theirs.refusal = r.refusal, theirs.place = r.place, theirs.count = r.count, theirs.end = r.end;
+}
+static void flatten_ours(void) {
+    struct smaf_flatten_reply r = smaf_flatten(file, length, length, 2, ours.room, LARGEST);
+    ours.refusal = r.refusal, ours.place = r.place, ours.count = r.length;
+}
+static void flatten_theirs(void) {
+    struct smaf_flatten_reply r = base_flatten(file, length, length, 2, theirs.room, LARGEST);
+    theirs.refusal = r.refusal, theirs.place = r.place, theirs.count = r.length;
+}
+static void code_ours(void) { ours.count = smaf_check_code(file, length); }
+static void code_theirs(void) { theirs.count = base_check_code(file, length); }
+
+/* TIME */
+
+static double now(void) {
+    struct timespec t;
+    clock_gettime(CLOCK_MONOTONIC, &t);
+    return (double)t.tv_sec * 1e6 + (double)t.tv_nsec / 1e3;
+}
+
+/* Microseconds of one call, from so many in a row. */
+static double once(void (*task)(void), int calls) {
+    double start = now();
+    for (int i = 0; i < calls; i++)
+        task();
+    return (now() - start) / calls;
+}
+
+static int over;
+
+static void measure(const char *what, void (*mine)(void), void (*other)(void), size_t refusal) {
+    memset(&ours, 0, sizeof ours);
+    memset(&theirs, 0, sizeof theirs);
+    mine();
+    other();
+    if (memcmp(&ours, &theirs, sizeof ours) != 0 || ours.refusal != refusal) {
+        printf("%s: the two answer differently, or with another refusal than %zu\n", what, refusal);
+        over = 2;
+        return;
+    }
+    int calls = (int)(2000 / (once(other, 3) + 1)) + 1;
+    double best_mine = 1e18, best_other = 1e18;
+    for (int round = 0; round < ROUNDS; round++) {
+        double a = once(mine, calls), b = once(other, calls);
+        best_mine = a < best_mine ? a : best_mine;
+        best_other = b < best_other ? b : best_other;
+    }
+    double ratio = best_mine / best_other;
+    over |= ratio > 1.25;
+    printf("| %s | %.1f | %.1f | %.2f%s |\n", what, best_mine, best_other, ratio, ratio > 1.25 ? " (over)" : "");
+    fflush(stdout);
+}
+
+int main(void) {
+    printf("| task | proved, µs | baseline, µs | ratio |\n|---|---|---|---|\n");
+    stream(100000, LARGEST - 8);
+    measure("read: a 64 KB body of small items", read_ours, read_theirs, 0);
+    chunks(8000);
+    measure("read: 8,000 chunks", read_ours, read_theirs, 0);
+    stream(20000, LARGEST);
+    measure("play: a stream of 20,000 messages", play_ours, play_theirs, 0);
+    order(20, 3000);
+    measure("play: an order of 3,000 letters, 60,000 messages", play_ours, play_theirs, 0);
+    order(20, 1000);
+    measure("flatten: an order of 1,000 letters, 20,000 messages", flatten_ours, flatten_theirs, 0);
+    order(200, 58000);
+    measure("refused: an order of 58,000 letters, play", play_ours, play_theirs, 15);
+    measure("refused: an order of 58,000 letters, flatten", flatten_ours, flatten_theirs, 18);
+    stream(100000, LARGEST - 8);
+    measure("check code of 64 KB", code_ours, code_theirs, 0);
+    return over;
+}
