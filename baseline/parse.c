@@ -41,7 +41,7 @@ static inline uint32_t word_of(uint32_t kind, uint32_t channel, uint32_t value, 
     return kind << 27 | channel << 25 | value << 17 | gate << 2;
 }
 
-inline size_t read_item(const uint8_t *s, size_t n, size_t at, int pcm, struct item *item) {
+size_t read_item(const uint8_t *s, size_t n, size_t at, int pcm, struct item *item) {
     if (n - at >= 4 && (s[at] | s[at + 1] | s[at + 2] | s[at + 3]) == 0) {
         item->what = END_MARK;
         item->duration = 0;
@@ -56,7 +56,7 @@ inline size_t read_item(const uint8_t *s, size_t n, size_t at, int pcm, struct i
     uint8_t b = s[e];
     if (b != 0 && b != 0xFF) {
         uint32_t gate;
-        uint32_t value = pcm ? b & 63u : b & 63u;
+        uint32_t value = b & 63u;
         if (pcm ? value == 0 || value == 63 : (b & 15) == 0 || (b & 15) > 12)
             return 0;
         size_t g = length_at(s, n, e + 1, &gate);
