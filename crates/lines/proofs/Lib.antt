@@ -1,0 +1,5 @@
+pub mod Decimals
+pub mod Numbers
+pub mod Names
+pub mod Pitches
+pub mod Lines
