@@ -1,13 +1,14 @@
 -- What the functions of this crate speak of beside the definitions of the model: a line in parts, and the messages that rows say.
-use Prim.Native.Nat.{ℕ, zero, suc, _+_, _-_, _*_, _/_, _%_}
+use Prim.Native.Nat.{ℕ, zero, suc, _+_, _-_, _*_, _/_, _%_, _<_, _≤_}
 use mathlib.Core.Bool.{Bool, true, false}
 use mathlib.Core.List.{List, [], _∷_, _++_}
 use mathlib.Core.Option.{Option, none, some}
 use lib.IntN.{pos, _-ℤ_}
 use Rattle.model.specs.Words.{if_then_else_, _≤?_}
 use Rattle.model.specs.Pitch.{semitones}
-use Rattle.model.specs.Listing.{Line}
-use Rattle.model.specs.ListingText.{space, newline, decimal, signed, kindName, channelName}
+use Rattle.model.specs.Bytes.{_!_}
+use Rattle.model.specs.Listing.{Line, linesOf}
+use Rattle.model.specs.ListingText.{bytes, space, newline, decimal, signed, kindName, channelName, linesText}
 use Rattle.model.specs.Play.{At}
 use Rattle.model.specs.Writing.{eventIn}
 use Rattle.model.specs.declared.Event.{Event}
@@ -80,3 +81,20 @@ messagesIn (suc count) [] words = []
 messagesIn (suc count) (step ∷ steps) [] = []
 messagesIn (suc count) (step ∷ steps) (word ∷ words) =
     record { step = step; event = eventIn word } ∷ messagesIn count steps words
+
+-- the lines of the first rows, where a step lasts so many milliseconds
+unfoldable pub rowsText : ℕ → ℕ → List ℕ → List ℕ → List ℕ
+rowsText base count steps words = linesText (linesOf base (0 ∷ 0 ∷ 0 ∷ 0 ∷ []) (messagesIn count steps words))
+
+-- a word and two numbers on one line
+unfoldable pub pairText : List ℕ → ℕ → ℕ → List ℕ
+pairText word first second = word ++ closed (decimal first) space ++ closed (decimal second) newline
+
+-- the listing of the first rows of two tables
+unfoldable pub tuneText : ℕ → ℕ → List ℕ → List ℕ → ℕ → List ℕ
+tuneText base count steps words end =
+    bytes "step ms ch kind value gate\n" ++ rowsText base count steps words ++ pairText (bytes "end ") end (end * base)
+
+-- the first steps are so early that their milliseconds fit
+abbrev pub Early : ℕ → List ℕ → Type 0
+Early count steps = (i : ℕ) → i < count → steps ! i ≤ 368934881474191032

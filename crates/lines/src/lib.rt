@@ -3,3 +3,4 @@
 mod line;
 mod name;
 mod number;
+mod rows;
