@@ -4,3 +4,5 @@ pub mod Names
 pub mod Pitches
 pub mod Lines
 pub mod Rowing
+pub mod Tops
+pub mod Firsts
