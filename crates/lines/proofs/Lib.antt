@@ -6,3 +6,5 @@ pub mod Lines
 pub mod Rowing
 pub mod Tops
 pub mod Firsts
+pub mod Heard
+pub mod Listings

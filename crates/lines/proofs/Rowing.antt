@@ -150,7 +150,7 @@ module _ (word : List ℕ) (first second at middle last : ℕ) (p : middle ≡ a
 
 pub ruleset pairs = (pair-next, pair-written)
 
-pair-fields : (word : List ℕ) (first second : ℕ) → fields (word ∷ decimal first ∷ decimal second ∷ []) ≡ pairText (word ++ (0x20 ∷ [])) first second
+pub pair-fields : (word : List ℕ) (first second : ℕ) → fields (word ∷ decimal first ∷ decimal second ∷ []) ≡ pairText (word ++ (0x20 ∷ [])) first second
 unfolding fields pairText closed
 pair-fields word first second = sym (simp append-assoc)
 

@@ -4,12 +4,12 @@ use mathlib.Core.Bool.{Bool, true, false}
 use mathlib.Core.List.{List, [], _∷_, _++_}
 use mathlib.Core.Option.{Option, none, some}
 use lib.IntN.{pos, _-ℤ_}
-use Rattle.model.specs.Words.{if_then_else_, _≤?_}
+use Rattle.model.specs.Words.{if_then_else_, _≤?_, Checked, Checked.fine, Checked.refused}
 use Rattle.model.specs.Pitch.{semitones}
 use Rattle.model.specs.Bytes.{_!_}
-use Rattle.model.specs.Listing.{Line, linesOf}
+use Rattle.model.specs.Listing.{Line, Listing, linesOf}
 use Rattle.model.specs.ListingText.{bytes, space, newline, decimal, signed, kindName, channelName, linesText}
-use Rattle.model.specs.Play.{At}
+use Rattle.model.specs.Play.{At, Tune}
 use Rattle.model.specs.Writing.{eventIn}
 use Rattle.model.specs.declared.Event.{Event}
 use Rattle.lines.specs.declared.line.Printed.{Printed}
@@ -98,3 +98,12 @@ tuneText base count steps words end =
 -- the first steps are so early that their milliseconds fit
 abbrev pub Early : ℕ → List ℕ → Type 0
 Early count steps = (i : ℕ) → i < count → steps ! i ≤ 368934881474191032
+
+-- the listing of a tune, where a step lasts so many milliseconds
+unfoldable pub tuneListed : ℕ → Tune Event → Listing
+tuneListed base tune =
+    record { lines = linesOf base (0 ∷ 0 ∷ 0 ∷ 0 ∷ []) (tune .messages); end = tune .end; endMs = tune .end * base }
+
+unfoldable pub playListed : ℕ → Checked (Tune Event) → Checked Listing
+playListed base (fine tune) = fine (tuneListed base tune)
+playListed base (refused number place) = refused number place

@@ -16,7 +16,10 @@ use Rattle.model.specs.declared.ReadTop.{ReadTop}
 use Rattle.model.specs.declared.ReadTop.the-variants.{Track, Leaf, Cut}
 use Rattle.model.specs.declared.FirstTrack.{FirstTrack}
 use Rattle.model.specs.declared.FirstTrack.the-variants.{At, Nowhere}
+use Rattle.model.specs.Listing.{Listing}
+use Rattle.model.specs.Answer.{playOf}
 use Rattle.reading.specs.Stages.{placed}
+use Rattle.lines.specs.Fields.{playListed}
 
 -- the chunk of a size at a place, where its voice is known
 unfoldable pub voicedTop : List ℕ → ℕ → ℕ → ℕ → Checked (Option Voice) → ReadTop
@@ -43,3 +46,8 @@ unfoldable pub firstOf : ℕ → List Top → FirstTrack
 firstOf k [] = Nowhere
 firstOf k (leaf chunk ∷ tops) = firstOf (k + 1) tops
 firstOf k (readable chunk track ∷ tops) = At k (milliseconds (track .baseD))
+
+-- the listing of the first readable track of a file
+unfoldable pub firstListed : List ℕ → FirstTrack → Checked Listing
+firstListed input (At row base) = playListed base (playOf input (length input) row 4096)
+firstListed input Nowhere = refused 16 0

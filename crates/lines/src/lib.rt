@@ -5,5 +5,8 @@ mod head;
 mod line;
 mod name;
 mod number;
+mod operation;
 mod rows;
 mod top;
+
+pub use operation::list;

@@ -54,7 +54,7 @@ fn write_rows(
 // A word and two numbers, on one line.
 fn write_pair(out: &mut [u8], at: usize, word: &[u8], first: u64, second: u64) -> usize
     requires { ⌜ at + length (now word) + 42 ≤ length (now out) ⌝ }
-    ensures { λ r. ⌜ r ≡ at + length (pairText (now (word .entry)) first second) ⌝ }
+    ensures { λ r. ⌜ (r ≡ at + length (pairText (now (word .entry)) first second)) × (r ≤ at + length (now (word .entry)) + 42) ⌝ }
     ensures { λ _. ⌜ now (out .exit) ≡ sets (now (out .entry)) at (pairText (now (word .entry)) first second) ⌝ }
 {
     let middle = write_text(out, at, word);
@@ -64,7 +64,7 @@ fn write_pair(out: &mut [u8], at: usize, word: &[u8], first: u64, second: u64) -
 
 pub fn write_refusal(out: &mut [u8], number: u32, place: usize) -> usize
     requires { ⌜ 50 ≤ length (now out) ⌝ }
-    ensures { λ r. ⌜ r ≡ length (listingText (refused number place)) ⌝ }
+    ensures { λ r. ⌜ (r ≡ length (listingText (refused number place))) × (r ≤ 50) ⌝ }
     ensures { λ _. ⌜ now (out .exit) ≡ sets (now (out .entry)) 0 (listingText (refused number place)) ⌝ }
 {
     write_pair(out, 0, b"refused ", number as u64, place as u64)
@@ -82,7 +82,7 @@ pub fn write_listing(
     requires { ⌜ 73 + 118 * count ≤ length (now out) ⌝ }
     requires { ⌜ (end ≤ 368934881474191032) × (milliseconds ≤ 50) ⌝ }
     requires { ⌜ Early count (now steps) ⌝ }
-    ensures { λ r. ⌜ r ≡ length (tuneText milliseconds count (now (steps .entry)) (now (words .entry)) end) ⌝ }
+    ensures { λ r. ⌜ (r ≡ length (tuneText milliseconds count (now (steps .entry)) (now (words .entry)) end)) × (r ≤ 73 + 118 * count) ⌝ }
     ensures { λ _. ⌜ now (out .exit) ≡ sets (now (out .entry)) 0 (tuneText milliseconds count (now (steps .entry)) (now (words .entry)) end) ⌝ }
 {
     let first = write_text(out, 0, b"step ms ch kind value gate\n");

@@ -26,7 +26,7 @@ same-length : tie.Need-same-length
 same-length c = search needs
 
 returns : tie.Need-returns
-returns c = (search (needs, listings), search (needs, listings))
+returns c = ((search (needs, listings), search needs), search (needs, listings))
 
 pub write-listing-spec : {M : Type 1} → statement M
 write-listing-spec =

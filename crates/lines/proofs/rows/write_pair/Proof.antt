@@ -17,7 +17,7 @@ same-length : tie.Need-same-length
 same-length c = search needs
 
 returns : tie.Need-returns
-returns c = (search (needs, pairs), search (needs, pairs))
+returns c = ((search (needs, pairs), search needs), search (needs, pairs))
 
 pub write-pair-spec : {M : Type 1} → statement M
 write-pair-spec =

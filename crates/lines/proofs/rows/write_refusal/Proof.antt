@@ -14,7 +14,7 @@ same-length : tie.Need-same-length
 same-length c = search needs
 
 returns : tie.Need-returns
-returns c = (search (needs, refusals), search (needs, refusals))
+returns c = ((search (needs, refusals), search needs), search (needs, refusals))
 
 pub write-refusal-spec : {M : Type 1} → statement M
 write-refusal-spec =
