@@ -1,19 +1,16 @@
-// The listing program: a file from standard input, its listing on standard output. What it prints is `lines::list`'s, which is proved.
+// The listing program: a file from standard input, its listing on standard output. What it prints is the text of `lines::list`, whose room
+// is large enough for any.
 use model::Listed;
 
-// A file of 65,536 bytes, and one byte more for what is too long.
+// One byte more than a file may have shows one that is too long.
 fn main() {
     let mut input = [0u8; 65537];
-    let mut text = [0u8; 500000];
+    let mut page = [0u8; 500000];
     let size = io::read_full(0, &mut input);
-    match lines::list(&input[..size], &mut text) {
-        Listed::Text { length } => print(&text, length),
+    match lines::list(&input[..size], &mut page) {
+        Listed::Text { length } => {
+            text::flush(&mut page, length);
+        }
         Listed::Full => {}
-    }
-}
-
-fn print(text: &[u8], length: usize) {
-    if length <= text.len() {
-        io::write_all(1, &text[..length]);
     }
 }
