@@ -1,10 +1,12 @@
 // The probe: takes a row of cases on standard input and writes the answer to each, as text, on standard output, with a line that says
 // whether lent memory outside the answer was kept. A case is one byte for the operation, four numbers of four bytes (stated length, row
-// number, room, length of the buffer), and the buffer. It answers `r` (read), `p` (play) and `t` (pitch). A case that is cut, too large
+// number, room, length of the buffer), and the buffer. It answers `r` (read), `p` (play), `l` (listing) and `t` (pitch). A case that is cut, too large
 // or of an unknown operation ends the run with the line `bad case`.
+mod listings;
 mod messages;
 mod rows;
 
+use listings::answer_list;
 use messages::answer_play;
 use model::Pitch;
 use rows::answer_read;
@@ -65,6 +67,9 @@ fn is_known(operation: u8) -> bool {
         return true;
     }
     if operation == b'p' {
+        return true;
+    }
+    if operation == b'l' {
         return true;
     }
     operation == b't'
@@ -137,6 +142,14 @@ fn lend_to_play(
     )
 }
 
+fn lend_to_list(page: &mut [u8], used: usize, case: Case, buffer: &[u8]) -> usize {
+    let size = case.size as usize;
+    if buffer.len() < size {
+        return used;
+    }
+    answer_list(page, used, &buffer[..size])
+}
+
 // The answer to a good case.
 fn answer(
     page: &mut [u8],
@@ -151,6 +164,9 @@ fn answer(
     }
     if case.operation == b'p' {
         return lend_to_play(page, used, case, buffer, table, steps);
+    }
+    if case.operation == b'l' {
+        return lend_to_list(page, used, case, buffer);
     }
     let used = answer_pitch(page, used, case.stated, case.row);
     put(page, used, b"-- kept\n")
