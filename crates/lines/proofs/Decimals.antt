@@ -5,7 +5,7 @@ use mathlib.Core.Path.{_≡_, refl, sym, _∙_, ap}
 use lib.ListN.{length, length-append}
 use native.Mathlib.Omega.{arith}
 use borrow.Author.Tests.{lt-ltb, le-ltb, ltb-true, ltb-false}
-use Rattle.model.specs.Words.{if_then_else_, _<?_}
+use Rattle.model.specs.Words.{_<?_}
 use Rattle.model.specs.ListingText.{digit, digitsWithin, decimal}
 use Rattle.model.proofs.Tests.{if-true, if-false, by-test}
 

@@ -2,8 +2,7 @@
 -- `first_track`'s loop; and what its answer says of the file.
 use Prim.Native.Nat.{ℕ, _+_, _-_, _<_, _≤_}
 use mathlib.Core.Bool.{true}
-use mathlib.Core.List.{List, [], _∷_}
-use mathlib.Core.Option.{Option, none, some}
+use mathlib.Core.List.{List, _∷_}
 use mathlib.Core.Path.{_≡_, refl, sym, _∙_, ap, subst}
 use mir.Val.{Fits}
 use mir.Syntax.{w64}
@@ -11,17 +10,15 @@ use lib.ListN.{length}
 use native.Mathlib.Omega.{arith}
 use borrow.Author.Tests.{le-ltb, lt-leb}
 use Rattle.model.specs.Words.{Checked, Checked.fine, each}
-use Rattle.model.specs.Bytes.{_!_}
 use Rattle.model.specs.Item.{isFine}
 use Rattle.model.specs.TimeBase.{milliseconds}
 use Rattle.model.specs.Chunk.{Chunk, readChunk, chunkStep}
-use Rattle.model.specs.Track.{Track, placeOfD, voiceOf}
+use Rattle.model.specs.Track.{Track, voiceOf}
 use Rattle.model.specs.File.{File, Top, Top.leaf, Top.readable, topOf, contentsOf}
 use Rattle.model.specs.declared.ReadChunk.{ReadChunk}
 use Rattle.model.specs.declared.ReadChunk.the-variants as chunk
 use Rattle.model.specs.declared.ReadTop.{ReadTop}
 use Rattle.model.specs.declared.ReadTop.the-variants as top
-use Rattle.model.specs.declared.FirstTrack.{FirstTrack}
 use Rattle.model.specs.declared.FirstTrack.the-variants.{At, Nowhere}
 use Rattle.model.proofs.Tests.{if-false}
 use Rattle.model.proofs.Walks.{Stand}

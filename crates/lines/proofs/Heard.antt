@@ -1,7 +1,6 @@
 -- What is heard of a track and what its listing says of it: its steps are early, its words say its messages, and its rows in two tables are
 -- listed as the messages themselves.
 use Prim.Native.Nat.{ℕ, zero, suc, _+_, _*_, _<_, _≤_, min}
-use mathlib.Core.Bool.{false≢true}
 use mathlib.Core.List.{List, [], _∷_, _++_, map}
 use mathlib.Core.Option.{some}
 use mathlib.Core.Path.{_≡_, refl, sym, _∙_, ap, ap₂, subst}
@@ -9,17 +8,15 @@ use lib.ListN.{length, drop, length-append, length-map}
 use lib.Seq.{sets}
 use native.Mathlib.Omega.{arith}
 use borrow.Author.Tests.{ltb-false}
-use Rattle.model.specs.Words.{if_then_else_, _<?_, _≤?_, Checked, Checked.fine, Checked.refused, _>>_}
+use Rattle.model.specs.Words.{if_then_else_, _<?_, _≤?_, Checked, Checked.fine, Checked.refused}
 use Rattle.model.specs.Bytes.{_!_}
-use Rattle.model.specs.Item.{isFine}
 use Rattle.model.specs.Play.{At, Tune, tuneOf}
 use Rattle.model.specs.Word.{wordOf, InWord}
 use Rattle.model.specs.Writing.{kindIn, eventIn, eventOfWord}
 use Rattle.model.specs.Order.{tuneIn}
-use Rattle.model.specs.Track.{Track}
 use Rattle.model.specs.Answer.{writtenOver, memoryAfter, playOf, playAnswer, stepsTable, wordsTable}
-use Rattle.model.specs.Listing.{Listing, linesOf}
-use Rattle.model.specs.ListingText.{bytes, decimal, fields, linesText, listingText}
+use Rattle.model.specs.Listing.{linesOf}
+use Rattle.model.specs.ListingText.{bytes, linesText, listingText}
 use Rattle.model.specs.declared.Event.{Event}
 use Rattle.model.specs.declared.PlayAnswer.{PlayAnswer}
 use Rattle.model.specs.declared.PlayAnswer.the-variants as play
@@ -31,9 +28,10 @@ use Rattle.sections.proofs.Steps.{Rising}
 use Rattle.sections.proofs.Throughout.{OfMessages, of-played, body-in-word}
 use Rattle.sections.proofs.Lengths.{tune-short}
 use Rattle.reading.proofs.OneTop.{bind-fine, then-fine}
+use Rattle.reading.proofs.Accepted.{not-refused}
 use Rattle.plain.proofs.NamedTracks.{Readable, named-reads}
 use Rattle.playing.proofs.Theorems.{PlayMade, play-made, steps-rise}
-use Rattle.lines.specs.Fields.{messagesIn, rowsText, pairText, tuneText, tuneListed, playListed, Early}
+use Rattle.lines.specs.Fields.{messagesIn, rowsText, tuneText, tuneListed, playListed, Early}
 use Rattle.lines.proofs.Rowing.{pair-fields}
 
 -- WORDS say their events
@@ -66,16 +64,14 @@ steps-early low high (at ∷ messages) rest rises (suc i) h = steps-early (at .s
 -- A PLAY that is accepted
 module _ (buffer : List ℕ) (n row room : ℕ) (tune : Tune Event) (e : playOf buffer n row room ≡ fine tune) where
   pub few-rows : length (tune .messages) ≤ room
-  unfolding playOf isFine if_then_else_
+  unfolding playOf
   few-rows =
       let a = bind-fine _ _ tune e in
       let b = then-fine _ _ tune (a .2) in
       let last : fine (a .0 .tune) ≡ fine tune = b .1 in
       let same : a .0 .tune ≡ tune = cc in
       subst (λ (t : Tune Event). length (t .messages) ≤ room) same
-      (by-test (room <? length (a .0 .tune .messages))
-      (λ t. absurd (false≢true (simp t at (b .0))))
-      (λ t. ltb-false room (length (a .0 .tune .messages)) t))
+      (ltb-false room (length (a .0 .tune .messages)) (not-refused (room <? length (a .0 .tune .messages)) 15 _ _ (b .0)))
 
   module _ (bytes : (k : ℕ) → buffer ! k < 256) where
     made : PlayMade buffer n row tune

@@ -1,18 +1,18 @@
 -- Lines: what each event prints, the shifts after it, and a line in its parts.
 use Prim.Native.Nat.{ℕ, _+_}
-use mathlib.Core.List.{List, [], _∷_, _++_, append-assoc}
-use mathlib.Core.Path.{_≡_, refl, sym, _∙_, ap, ap₂}
+use mathlib.Core.List.{List, _++_, append-assoc}
+use mathlib.Core.Path.{_≡_, sym, _∙_, ap, ap₂}
 use lib.ListN.{length, getD, set}
 use lib.Seq.{sets}
 use borrow.Author.Tests.{eq-eqb, ne-eqb}
 use Rattle.model.specs.Words.{if_then_else_}
 use Rattle.model.specs.Listing.{Line, shiftsAfter, longKindOf, longValueOf, lineOf}
-use Rattle.model.specs.ListingText.{space, newline, decimal, signed, kindName, channelName, fields, lineText}
+use Rattle.model.specs.ListingText.{fields, lineText}
 use Rattle.model.specs.declared.Event.{Event}
 use Rattle.model.specs.declared.Event.the-variants.{Nop, Note, Wave, Control, Exclusive}
 use Rattle.lines.specs.declared.line.Printed.{Printed}
 use Rattle.lines.proofs.Numbers.{joined-next, joined-written}
-use Rattle.lines.specs.Fields.{closed, channelSaid, said, noteLine, voicedLine, unvoicedLine, timesText, sourceText, valueText}
+use Rattle.lines.specs.Fields.{closed, said, noteLine, voicedLine, unvoicedLine, timesText, sourceText, valueText}
 
 -- THE LINE of each event
 module _ (shifts : List ℕ) (step ms : ℕ) (event : Event) (line : Line) where

@@ -3,34 +3,32 @@
 use Prim.Native.Nat.{ℕ, _+_, _<_, _≤_}
 use mathlib.Core.Bool.{Bool, true}
 use mathlib.Core.List.{List, [], _∷_}
-use mathlib.Core.Option.{Option, none, some}
+use mathlib.Core.Option.{none, some}
 use mathlib.Core.Path.{_≡_, refl, sym, _∙_, ap, subst}
-use lib.ListN.{length, take}
+use lib.ListN.{length}
 use lib.Seq.{sets, take-length}
 use native.Mathlib.Nat.{add-zero}
 use native.Mathlib.Omega.{arith}
 use borrow.Author.Tests.{lt-ltb, le-ltb, eq-eqb, ne-eqb}
-use Rattle.model.specs.Words.{if_then_else_, _<?_, _≡?_, Checked, Checked.fine, Checked.refused, _>>=_}
+use Rattle.model.specs.Words.{_<?_, _≡?_, Checked, Checked.fine, Checked.refused, _>>=_}
 use Rattle.model.specs.Item.{isFine}
 use Rattle.model.specs.TimeBase.{milliseconds}
 use Rattle.model.specs.Play.{Tune}
 use Rattle.model.specs.Track.{Track}
 use Rattle.model.specs.File.{File, Top, Top.leaf, Top.readable, contentsOf, fileOf, partsOf, trackIn, trackFrom, trackAt}
 use Rattle.model.specs.Answer.{readOf, readAnswer, named, playOf}
-use Rattle.model.specs.Listing.{Listing, firstReadable, rowNamed, listed, listingOf}
+use Rattle.model.specs.Listing.{firstReadable, rowNamed, listed, listingOf}
 use Rattle.model.specs.ListingText.{listingText, listAnswer, listMemory}
 use Rattle.model.specs.declared.Event.{Event}
 use Rattle.model.specs.declared.ReadAnswer.{ReadAnswer}
 use Rattle.model.specs.declared.ReadAnswer.the-variants as read
 use Rattle.model.specs.declared.FirstTrack.{FirstTrack}
 use Rattle.model.specs.declared.FirstTrack.the-variants.{At, Nowhere}
-use Rattle.model.specs.declared.Listed.{Listed}
 use Rattle.model.specs.declared.Listed.the-variants.{Text, Full}
 use Rattle.model.proofs.Tests.{if-true, if-false}
 use Rattle.reading.specs.Stages.{topsOf}
 use Rattle.reading.proofs.OneTop.{bind-fine, then-fine}
-use Rattle.reading.proofs.Accepted.{stated-bytes}
-use Rattle.plain.proofs.NamedTracks.{stated-small}
+use Rattle.reading.proofs.Accepted.{stated-bytes, stated-small}
 use Rattle.playing.proofs.Played.{written-front}
 use Rattle.lines.specs.Fields.{tuneListed, playListed}
 use Rattle.lines.specs.Tops.{firstOf, firstListed}

@@ -1,12 +1,12 @@
 -- Numbers and texts in lent memory: what is written digit by digit, with a sign in front and a byte behind it.
 use Prim.Native.Nat.{ℕ, suc, _+_, _-_, _/_, _%_, _<_, _≤_}
 use mathlib.Core.List.{List, [], _∷_, _++_}
-use mathlib.Core.Path.{_≡_, refl, sym, _∙_, ap}
+use mathlib.Core.Path.{_≡_, sym, _∙_, ap}
 use mir.Val.{Fits}
 use mir.Syntax.{w64}
-use lib.ListN.{length, set, take, length-append, length-set}
+use lib.ListN.{length, set, length-append, length-set}
 use lib.Seq.{sets, take-length}
-use lib.IntN.{ℤ, pos, negsuc, _-ℤ_}
+use lib.IntN.{pos, _-ℤ_}
 use native.Mathlib.Omega.{arith}
 use Rattle.model.specs.Bytes.{part}
 use Rattle.model.specs.ListingText.{decimal, signed}

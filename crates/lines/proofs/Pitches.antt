@@ -3,7 +3,7 @@ use Prim.Native.Nat.{ℕ, _+_, _-_, _*_, _/_, _%_, _≤_}
 use mathlib.Core.Bool.{true, false}
 use mathlib.Core.List.{List}
 use mathlib.Core.Option.{some, none}
-use mathlib.Core.Path.{_≡_, refl, sym, _∙_, ap, ap₂}
+use mathlib.Core.Path.{_≡_, sym, _∙_, ap, ap₂}
 use lib.ListN.{length, getD, set, List·getD-eq-default}
 use lib.Seq.{set-out}
 use lib.IntN.{ℤ, pos, _-ℤ_}
@@ -12,7 +12,6 @@ use native.Mathlib.Omega.{arith}
 use borrow.Author.Tests.{leb-true, leb-false}
 use Rattle.model.specs.Words.{if_then_else_, _≤?_}
 use Rattle.model.specs.Pitch.{semitones}
-use Rattle.model.specs.Listing.{Line}
 use Rattle.model.proofs.Tests.{if-true, if-false, by-test}
 use Rattle.pitch.proofs.Counts.{difference-up, raised, lowered}
 use Rattle.lines.specs.declared.line.Printed.{Printed}

@@ -9,13 +9,11 @@ use lib.Seq.{sets, drop-cons}
 use native.Mathlib.Nat.{mul-le-mul-left, sub-zero}
 use native.Mathlib.Omega.{arith}
 use Rattle.model.specs.Bytes.{_!_}
-use Rattle.model.specs.Play.{At}
 use Rattle.model.specs.Writing.{eventIn}
 use Rattle.model.specs.Listing.{Line, shiftsAfter, lineOf, linesOf}
 use Rattle.model.specs.ListingText.{bytes, decimal, fields, lineText, linesText, listingText}
 use Rattle.model.specs.Words.{Checked.refused}
 use Rattle.model.specs.declared.Event.{Event}
-use Rattle.model.proofs.Stores.{sets-append}
 use Rattle.lines.specs.declared.line.Printed.{Printed}
 use Rattle.lines.specs.Fields.{closed, said, messagesIn, rowsText, pairText, tuneText, Early}
 use Rattle.lines.proofs.Numbers.{joined-next, joined-written}

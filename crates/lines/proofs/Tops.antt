@@ -2,11 +2,11 @@
 use Prim.Native.Nat.{ℕ, _+_, _-_, _<_, _≤_}
 use mathlib.Core.List.{List}
 use mathlib.Core.Option.{Option}
-use mathlib.Core.Path.{_≡_, refl, sym, _∙_, ap, subst}
+use mathlib.Core.Path.{_≡_, sym, _∙_, ap, subst}
 use lib.ListN.{length}
 use native.Mathlib.Omega.{arith}
 use borrow.Author.Tests.{lt-ltb, le-ltb}
-use Rattle.model.specs.Words.{if_then_else_, _≡?_, Checked}
+use Rattle.model.specs.Words.{_≡?_, Checked}
 use Rattle.model.specs.Bytes.{_!_}
 use Rattle.model.specs.TimeBase.{milliseconds}
 use Rattle.model.specs.Chunk.{readChunk}

@@ -9,8 +9,7 @@ use lib.ListN.{length, take, drop, length-take, length-drop, List·getD-eq-defau
 use lib.Seq.{getD-take, getD-drop}
 use native.Mathlib.Omega.{arith}
 use native.Mathlib.Decide.{decLt}
-use borrow.Author.Tests.{ltb-false}
-use Rattle.model.specs.Words.{if_then_else_, _or_, _<?_, _≡?_, _otherwise_, firstSaid, Placed, Checked, Checked.fine, Checked.refused, _>>_, countedFrom, each}
+use Rattle.model.specs.Words.{_≡?_, _otherwise_, firstSaid, Placed, Checked, Checked.fine, Checked.refused, countedFrom, each}
 use Rattle.model.specs.Bytes.{_!_, part}
 use Rattle.model.specs.Item.{Item, isFine, found, bodyOf}
 use Rattle.model.specs.Seek.{Entry, seekOf, orderList, pointsSaid}
@@ -23,7 +22,7 @@ use Rattle.model.proofs.Tests.{by-test, if-true, if-false}
 use Rattle.seek.proofs.Standing.{allEntries}
 use Rattle.seek.proofs.Naming.{ordered}
 use Rattle.reading.proofs.OneTop.{then-fine, bind-fine}
-use Rattle.reading.proofs.Accepted.{stated-bytes, contents-made, each-fine, each-none, OpenedAs, opened-as}
+use Rattle.reading.proofs.Accepted.{stated-bytes, stated-small, contents-made, each-fine, each-none, OpenedAs, opened-as}
 
 -- bytes of a part are bytes
 
@@ -125,19 +124,6 @@ row-opened s row k (chunk ∷ chunks) tops track e h =
     by-test (row ≡? k)
     (λ hit. track-opened s chunk (o .0) track (opened-as s chunk (o .0) (o .2)) (sym (if-true (row ≡? k) _ _ hit) ∙ asked))
     (λ miss. row-opened s row (k + 1 + length (partsOf (o .0))) chunks (o .1) track (o .3) (sym (if-false (row ≡? k) _ _ miss) ∙ asked))
-
-second-false : (a b : Bool) → (a or b) ≡ false → b ≡ false
-unfolding _or_
-second-false true b h = absurd (false≢true (sym h))
-second-false false b h = h
-
--- 1: what is accepted is not over 65,536 bytes
-pub stated-small : (buffer : List ℕ) (n : ℕ) (file : File) → fileOf buffer n ≡ fine file → n ≤ 65536
-unfolding fileOf _>>_ if_then_else_
-stated-small buffer n file e =
-    by-test ((length buffer <? n) or (65536 <? n))
-    (λ t. let q = simp t at e in let z : _≡_ {A = ℕ} 0 1 = cc in absurd (omega arith))
-    (λ t. ltb-false 65536 n (second-false (length buffer <? n) (65536 <? n) t))
 
 pub record Readable (track : Track) : Type 0 where
   pub bytes : (k : ℕ) → track .body ! k < 256
