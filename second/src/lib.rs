@@ -24,3 +24,4 @@ pub mod soak;
 pub mod time_base;
 pub mod track;
 pub mod tune;
+pub mod tunes;

@@ -4,11 +4,11 @@ use second::case::{answer_stream, Case, Operation};
 use second::compare::compare;
 use second::listing::listing;
 use second::progress::progress;
-use second::{clauses, generate, soak, tune};
+use second::{clauses, generate, soak, tune, tunes};
 use std::io::{BufWriter, Read, Write};
 use std::process::ExitCode;
 
-const USAGE: &str = "usage: second list FILE | tune | answer | \
+const USAGE: &str = "usage: second list FILE | tune | tunes FOLDER | answer | \
 generate OPERATIONS COUNT SEED | generate-all-pitches | \
 generate-many-chunks ROWS | \
 compare CASES ANSWERS [DIFFERENCE] | clauses OPERATIONS COUNT SEED | soak COUNT SEED";
@@ -21,6 +21,7 @@ fn main() -> ExitCode {
     let outcome = match words[..] {
         ["list", path] => list(path),
         ["tune"] => put(&tune::worked_tune()),
+        ["tunes", folder] => write_tunes(folder),
         ["answer"] => answer(),
         ["generate", letters, count, seed] => write_cases(letters, count, seed),
         ["generate-many-chunks", rows] => write_many_chunks(rows),
@@ -61,6 +62,18 @@ fn put(bytes: &[u8]) -> Outcome {
 
 fn list(path: &str) -> Outcome {
     put(listing(&read_file(path)?).unwrap_or_else(|refusal| refusal.text()).as_bytes())
+}
+
+/// Each tune and its listing.
+fn write_tunes(folder: &str) -> Outcome {
+    for tune in tunes::all() {
+        let text = listing(&tune.file).unwrap_or_else(|refusal| refusal.text());
+        for (bytes, ending) in [(&tune.file[..], "mmf"), (text.as_bytes(), "txt")] {
+            let path = format!("{folder}/{}.{ending}", tune.name);
+            std::fs::write(&path, bytes).map_err(|error| format!("{path}: {error}"))?;
+        }
+    }
+    Ok(ExitCode::SUCCESS)
 }
 
 fn answer() -> Outcome {

@@ -16,6 +16,7 @@ use Rattle.model.specs.Play.{At, Tune}
 use Rattle.model.specs.Pitch.{pitchOf}
 use Rattle.model.specs.Answer.{playOf, flattenOf}
 use Rattle.model.specs.Listing.{Line, Listing, listingOf}
+use Rattle.model.specs.ListingText.{bytes, listingText}
 use Rattle.model.specs.declared.Voice.{Voice}
 use Rattle.model.specs.declared.Voice.the-variants.{Score, Pcm}
 use Rattle.model.specs.declared.Event.{Event}
@@ -84,6 +85,7 @@ pub data Example : Type 0 where
   plays : List ℕ → Checked (Tune Event) → Example
   flattens : List ℕ → Checked (List ℕ) → Example
   lists : List ℕ → Checked Listing → Example
+  prints : List ℕ → List ℕ → Example
 
 abbrev pub Holds : Example → Type 0
 Holds (duration bytes value) = durationAt bytes 0 ≡ value
@@ -92,6 +94,7 @@ Holds (body bytes items) = bodyOf Score bytes ≡ items
 Holds (plays file tune) = playOf file (length file) 2 4096 ≡ tune
 Holds (flattens file bytes) = flattenOf file (length file) 2 65536 ≡ bytes
 Holds (lists file listing) = listingOf file ≡ listing
+Holds (prints file text) = listingText (listingOf file) ≡ text
 
 abbrev pub AllHold : List Example → Type 0
 AllHold [] = Unit
@@ -156,6 +159,9 @@ tune =
       end = 590;
       endMs = 2360;
     }))
+    ∷ prints (tuneFile (0x41 ∷ 0x53 ∷ 0x53 ∷ []))
+    (bytes
+    "step ms ch kind value gate\n0 0 0 program 5 0\n10 40 0 note 0 20\n268 1072 0 note 3 128\n300 1200 0 note 0 20\n558 2232 0 note 3 128\nend 590 2360\n")
     ∷ []
 
 -- Searching for four zeros: they would be found one byte early, in the program's own value. Choosing phrase messages by address: PA

@@ -20,4 +20,5 @@ pub mod Pitch
 pub mod Answer
 pub mod Stretch
 pub mod Listing
+pub mod ListingText
 pub mod Examples

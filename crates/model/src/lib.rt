@@ -349,3 +349,22 @@ pub enum Pitch {
     Semitones { above: i32 },
     Refused { number: u32, place: usize },
 }
+
+// The answer to a listing: a text of so many bytes, or no room for one.
+pub enum Listed {
+    Text { length: usize },
+    Full,
+}
+
+// A chunk of the top level at a place: a readable track, with the milliseconds of its time base D; or a leaf, and the place after it.
+pub enum ReadTop {
+    Track { milliseconds: u32 },
+    Leaf { next: usize },
+    Cut,
+}
+
+// The first readable track of a file: its row number, and the milliseconds of its time base D.
+pub enum FirstTrack {
+    At { row: usize, milliseconds: u32 },
+    Nowhere,
+}

@@ -1,22 +1,28 @@
--- A readable track of an accepted file: its items are what its body reads to, and its body is a part of the file.
+-- A readable track of an accepted file: its items are what its body reads to, its body is a part of the file, and its order list has no more
+-- letters than the file has bytes.
 use Prim.Native.Nat.{ℕ, _+_, _<_, _≤_}
 use mathlib.Core.List.{List, [], _∷_}
-use mathlib.Core.Option.{some}
+use mathlib.Core.Bool.{Bool, true, false, false≢true}
+use mathlib.Core.Option.{Option, none, some}
 use mathlib.Core.Path.{_≡_, refl, sym, _∙_, ap, subst}
-use lib.ListN.{length, take, drop, length-take, List·getD-eq-default}
+use lib.ListN.{length, take, drop, length-take, length-drop, List·getD-eq-default}
 use lib.Seq.{getD-take, getD-drop}
 use native.Mathlib.Omega.{arith}
 use native.Mathlib.Decide.{decLt}
-use Rattle.model.specs.Words.{_≡?_, Checked, Checked.fine, Checked.refused, countedFrom, each}
+use Rattle.model.specs.Words.{_≡?_, _otherwise_, firstSaid, Placed, Checked, Checked.fine, Checked.refused, countedFrom, each}
 use Rattle.model.specs.Bytes.{_!_, part}
-use Rattle.model.specs.Item.{bodyOf}
+use Rattle.model.specs.Item.{Item, isFine, found, bodyOf}
+use Rattle.model.specs.Seek.{Entry, seekOf, orderList, pointsSaid}
 use Rattle.model.specs.Chunk.{Chunk}
-use Rattle.model.specs.Track.{Track, trackOf}
+use Rattle.model.specs.Track.{Track, seekIn, entriesOf, trackOf}
 use Rattle.model.specs.File.{File, Top, Top.leaf, Top.readable, topOf, fileOf, partsOf, trackIn, trackFrom, trackAt}
 use Rattle.model.specs.declared.Voice.{Voice}
+use Rattle.model.specs.declared.Event.{Event}
 use Rattle.model.proofs.Tests.{by-test, if-true, if-false}
+use Rattle.seek.proofs.Standing.{allEntries}
+use Rattle.seek.proofs.Naming.{ordered}
 use Rattle.reading.proofs.OneTop.{then-fine, bind-fine}
-use Rattle.reading.proofs.Accepted.{stated-bytes, contents-made, each-fine, each-none, OpenedAs, opened-as}
+use Rattle.reading.proofs.Accepted.{stated-bytes, stated-small, contents-made, each-fine, each-none, OpenedAs, opened-as}
 
 -- bytes of a part are bytes
 
@@ -32,17 +38,47 @@ take-bytes s size bytes k =
 part-bytes : (s : List ℕ) (place size : ℕ) → ((k : ℕ) → s ! k < 256) → (k : ℕ) → part s place size ! k < 256
 part-bytes s place size bytes k = take-bytes (drop place s) size (λ j. omega (arith, getD-drop place s j 0, bytes (place + j))) k
 
+part-short : (s : List ℕ) (place size : ℕ) → length (part s place size) ≤ length s
+part-short s place size = simp (length-take, length-drop) (omega arith)
+
 -- the body of a track
 counted-fine : {A : Type 0} (base : ℕ) (c : Checked A) (a : A) → countedFrom base c ≡ fine a → c ≡ fine a
 unfolding countedFrom
 counted-fine base (fine b) a e = e
 counted-fine base (refused number place) a e = let z : _≡_ {A = ℕ} 0 1 = cc in absurd (omega arith)
 
+-- an order list has no more letters than the file has bytes
+listed-few : (s letters : List ℕ) (entries : List (Placed Entry)) → seekOf 1 s ≡ fine entries → orderList entries ≡ some letters → length letters ≤ length s
+unfolding isFine found _otherwise_
+listed-few s letters entries e listed =
+    let all = ordered true s (ap isFine e) (pointsSaid (allEntries true s)) refl .fits in
+    let same : (orderList (allEntries true s) otherwise []) ≡ letters =
+    ap (λ (c : Checked (List (Placed Entry))). orderList (found c) otherwise []) e ∙ ap (λ (o : Option (List ℕ)). o otherwise []) listed in
+    omega (arith, ap length same)
+
+letters-few : (phrases : Bool) (s : List ℕ) (items : List (Placed (Item Event))) (size : ℕ) (chunk : Option Chunk) (entries : List (Placed Entry))
+    → entriesOf phrases items size s chunk ≡ fine entries → (letters : List ℕ) → phrases ≡ true → orderList entries ≡ some letters → length letters ≤ length s
+unfolding entriesOf orderList firstSaid seekIn
+letters-few phrases s items size none entries e letters is listed =
+    let empty : [] ≡ entries = cc in
+    let q : orderList [] ≡ some letters = ap orderList empty ∙ listed in
+    let z : _≡_ {A = ℕ} 0 1 = cc in
+    absurd (omega arith)
+letters-few false s items size (some chunk) entries e letters is listed = absurd (false≢true is)
+letters-few true s items size (some chunk) entries e letters is listed =
+    let a = bind-fine _ _ entries (counted-fine (chunk .place + 8) _ entries e) in
+    let b = then-fine _ _ entries (a .2) in
+    let last = b .1 in
+    let same : a .0 ≡ entries = cc in
+    let few = listed-few (part s (chunk .place + 8) (chunk .size)) letters entries (a .1 ∙ ap fine same) listed in
+    omega (arith, part-short s (chunk .place + 8) (chunk .size))
+
 record Body (s : List ℕ) (track : Track) : Type 0 where
   place : ℕ
   size : ℕ
   is : track .body ≡ part s place size
   reads : bodyOf (track .voice) (track .body) ≡ fine (track .items)
+  few : (letters : List ℕ) → track .phrases ≡ true → orderList (track .entries) ≡ some letters → length letters ≤ length s
 
 abbrev trackOr : Track → Checked Track → Track
 trackOr other (fine track) = track
@@ -59,7 +95,13 @@ track-body s voice chunk track e =
     let g = bind-fine _ _ track (f .1) in
     let h = bind-fine _ _ track (g .2) in
     subst (Body s) (ap (trackOr track) (h .2))
-    (record { place = c .0 .place + 8; size = c .0 .size; is = refl; reads = counted-fine (c .0 .place + 8) _ (g .0) (g .1) })
+    (record {
+      place = c .0 .place + 8;
+      size = c .0 .size;
+      is = refl;
+      reads = counted-fine (c .0 .place + 8) _ (g .0) (g .1);
+      few = letters-few _ s (g .0) _ _ (h .0) (h .1);
+    })
 
 -- the track that a row names
 track-opened : (s : List ℕ) (chunk : Chunk) (top : Top) (track : Track) → OpenedAs s chunk top → trackIn top ≡ some track → Body s track
@@ -85,7 +127,9 @@ row-opened s row k (chunk ∷ chunks) tops track e h =
 
 pub record Readable (track : Track) : Type 0 where
   pub bytes : (k : ℕ) → track .body ! k < 256
+  pub small : length (track .body) ≤ 65536
   pub reads : bodyOf (track .voice) (track .body) ≡ fine (track .items)
+  pub few : (letters : List ℕ) → track .phrases ≡ true → orderList (track .entries) ≡ some letters → length letters ≤ 65536
 
 pub named-reads : (buffer : List ℕ) (n row : ℕ) (file : File) (track : Track) → ((k : ℕ) → buffer ! k < 256) → fileOf buffer n ≡ fine file
     → trackAt file row ≡ some track → Readable track
@@ -93,4 +137,10 @@ unfolding trackAt
 named-reads buffer n row file track bytes e h =
     let made = contents-made (take n buffer) file (stated-bytes buffer n file e .1) in
     let body = row-opened (take n buffer) row 1 (made .chunks) (file .tops) track (made .opens) h in
-    record { bytes = rw (body .is) (part-bytes (take n buffer) (body .place) (body .size) (take-bytes buffer n bytes)); reads = body .reads }
+    let stated : length (take n buffer) ≤ 65536 = let low = stated-small buffer n file e in simp length-take (omega arith) in
+    record {
+      bytes = rw (body .is) (part-bytes (take n buffer) (body .place) (body .size) (take-bytes buffer n bytes));
+      small = omega (arith, ap length (body .is), part-short (take n buffer) (body .place) (body .size));
+      reads = body .reads;
+      few = λ letters phrases listed. let low = body .few letters phrases listed in omega arith;
+    }

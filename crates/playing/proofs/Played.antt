@@ -41,7 +41,7 @@ module _ (o : Checked (Tune Event)) (number place : ℕ) (is : o ≡ refused num
 
 -- what is stored from the head on
 
-written-front : (l front : List ℕ) → length front ≤ length l → sets l 0 front ≡ writtenOver l front
+pub written-front : (l front : List ℕ) → length front ≤ length l → sets l 0 front ≡ writtenOver l front
 unfolding writtenOver
 written-front l front h = sets-eq front l 0 (omega arith) ∙ ap (λ (n : ℕ). front ++ drop n l) (zero-add (length front))
 

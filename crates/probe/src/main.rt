@@ -1,11 +1,13 @@
 // The probe: takes a row of cases on standard input and writes the answer to each, as text, on standard output, with a line that says
 // whether lent memory outside the answer was kept. A case is one byte for the operation, four numbers of four bytes (stated length, row
-// number, room, length of the buffer), and the buffer. It answers `r` (read), `p` (play), `f` (flatten) and `t` (pitch). A case that is cut, too large
+// number, room, length of the buffer), and the buffer. It answers `r` (read), `p` (play), `f` (flatten), `l` (listing) and `t` (pitch). A case that is cut, too large
 // or of an unknown operation ends the run with the line `bad case`.
+mod listings;
 mod messages;
 mod plain_forms;
 mod rows;
 
+use listings::answer_list;
 use messages::answer_play;
 use model::Pitch;
 use plain_forms::answer_flatten;
@@ -70,6 +72,9 @@ fn is_known(operation: u8) -> bool {
         return true;
     }
     if operation == b'f' {
+        return true;
+    }
+    if operation == b'l' {
         return true;
     }
     operation == b't'
@@ -164,6 +169,14 @@ fn lend_to_flatten(
     )
 }
 
+fn lend_to_list(page: &mut [u8], used: usize, case: Case, buffer: &[u8]) -> usize {
+    let size = case.size as usize;
+    if buffer.len() < size {
+        return used;
+    }
+    answer_list(page, used, &buffer[..size])
+}
+
 // The answer to a good case.
 fn answer(
     page: &mut [u8],
@@ -182,6 +195,9 @@ fn answer(
     }
     if case.operation == b'f' {
         return lend_to_flatten(page, used, case, buffer, bytes);
+    }
+    if case.operation == b'l' {
+        return lend_to_list(page, used, case, buffer);
     }
     let used = answer_pitch(page, used, case.stated, case.row);
     put(page, used, b"-- kept\n")

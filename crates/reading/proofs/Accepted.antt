@@ -28,7 +28,7 @@ use Rattle.reading.proofs.Files.{long-enough, frame-chunks}
 
 -- a test that can refuse, and did not
 
-not-refused : {A : Type 0} (b : Bool) (number place : ℕ) (rest : Checked A) → isFine (if b then refused number place else rest) ≡ true → b ≡ false
+pub not-refused : {A : Type 0} (b : Bool) (number place : ℕ) (rest : Checked A) → isFine (if b then refused number place else rest) ≡ true → b ≡ false
 unfolding if_then_else_ isFine
 not-refused true number place rest e = absurd (false≢true e)
 not-refused false number place rest e = refl
@@ -43,12 +43,24 @@ unfolding _or_
 neither-first true b e = e
 neither-first false b e = refl
 
+neither-second : (a b : Bool) → (a or b) ≡ false → b ≡ false
+unfolding _or_
+neither-second true b e = absurd (false≢true (sym e))
+neither-second false b e = e
+
 -- THE STATED BYTES of a buffer are all there, and they are what is read.
 pub stated-bytes : (buffer : List ℕ) (n : ℕ) (file : File) → fileOf buffer n ≡ fine file → (n ≤ length buffer) × (contentsOf (take n buffer) ≡ fine file)
 unfolding fileOf
 stated-bytes buffer n file e =
     let a = then-fine _ _ file e in
     (ltb-false (length buffer) n (neither-first (length buffer <? n) _ (not-refused _ 1 0 passed (a .0))), a .1)
+
+-- and they are not over 65,536
+pub stated-small : (buffer : List ℕ) (n : ℕ) (file : File) → fileOf buffer n ≡ fine file → n ≤ 65536
+unfolding fileOf
+stated-small buffer n file e =
+    let a = then-fine _ _ file e in
+    ltb-false 65536 n (neither-second (length buffer <? n) _ (not-refused _ 1 0 passed (a .0)))
 
 -- THE FILE'S OWN CHUNK, whose size counts all that follows its header
 pub whole-size : (s : List ℕ) (chunks : List Chunk) → frameOf s ≡ fine chunks → number 4 s 4 + 8 ≡ length s

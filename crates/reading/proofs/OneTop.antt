@@ -10,7 +10,8 @@ use native.Mathlib.Omega.{arith}
 use Rattle.model.specs.Words.{if_then_else_, Checked, Checked.fine, Checked.refused, _>>=_, _>>_}
 use Rattle.model.specs.Item.{isFine, found, checkAnswer}
 use Rattle.model.specs.Chunk.{Chunk, readChunk, chunkStep, chunkList}
-use Rattle.model.specs.Track.{Track, isAllowed, fixedHolds, voiceOf, trackOf}
+use Rattle.model.specs.Bytes.{_!_}
+use Rattle.model.specs.Track.{Track, isAllowed, placeOfD, fixedHolds, voiceOf, trackOf}
 use Rattle.model.specs.declared.ListOf.the-variants as list
 use Rattle.model.specs.declared.Voice.{Voice}
 use Rattle.model.specs.declared.FoundVoice.{FoundVoice}
@@ -119,7 +120,7 @@ unfolding _>>=_
 bind-fine (fine a) rest b e = (a, refl, e)
 bind-fine (refused n p) rest b e = let z : _≡_ {A = ℕ} 0 1 = cc in absurd (omega arith)
 
--- the sub-chunks of a track are those of its list, and its voice is the one it was opened in
+-- the sub-chunks of a track are those of its list, its voice is the one it was opened in, and its time base D stands at its place
 
 abbrev partsIn : Checked Track → List Chunk
 partsIn (fine track) = track .parts
@@ -129,10 +130,15 @@ abbrev voiceIn : Voice → Checked Track → Voice
 voiceIn other (fine track) = track .voice
 voiceIn other (refused number place) = other
 
+abbrev baseIn : Checked Track → ℕ
+baseIn (fine track) = track .baseD
+baseIn (refused number place) = 0
+
 pub track-parts : (s : List ℕ) (voice : Voice) (chunk : Chunk) (track : Track) → trackOf s voice chunk ≡ fine track
     → (isFine (fixedHolds voice s chunk) ≡ true)
     × (chunkList (isAllowed (list.Track voice)) s (chunk .place + 8 + 6) (chunk .place + 8 + chunk .size) ≡ fine (track .parts))
     × (track .voice ≡ voice)
+    × (track .baseD ≡ s ! (chunk .place + 8 + placeOfD voice))
 unfolding trackOf
 track-parts s voice chunk track e =
     let a = then-fine _ _ track e in
@@ -142,7 +148,7 @@ track-parts s voice chunk track e =
     let f = then-fine _ _ track (d .1) in
     let g = bind-fine _ _ track (f .1) in
     let h = bind-fine _ _ track (g .2) in
-    (a .0, b .1 ∙ ap fine (ap partsIn (h .2)), sym (ap (voiceIn voice) (h .2)))
+    (a .0, b .1 ∙ ap fine (ap partsIn (h .2)), sym (ap (voiceIn voice) (h .2)), sym (ap baseIn (h .2)))
 
 -- a track that is opened, and how many rows it brings
 

@@ -9,3 +9,5 @@ pub mod Spanning
 pub mod Small
 pub mod Steps
 pub mod Tunes
+pub mod Throughout
+pub mod Lengths

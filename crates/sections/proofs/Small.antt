@@ -23,7 +23,7 @@ use Rattle.sections.specs.Spans.{Items, onsets, spanOf, spanBetween, spa
 use Rattle.sections.proofs.Places.{Standing, item-short}
 use Rattle.sections.proofs.Nearing.{heard-one, says}
 
-kept-lasting : (test : Placed (Item Event) → Bool) (items : Items) → lasting (keep test items) ≤ lasting items
+pub kept-lasting : (test : Placed (Item Event) → Bool) (items : Items) → lasting (keep test items) ≤ lasting items
 unfolding keep lasting sum if_then_else_
 kept-lasting test [] = omega arith
 kept-lasting test (item ∷ items) =
@@ -45,7 +45,7 @@ module _ (voice : Voice) (s : List ℕ) where
       by-test (test (record { step = onset; event = item .what })) (λ t. simp t (omega arith)) (λ t. simp t (omega arith))
 
   module _ (bytes : (k : ℕ) → s ! k < 256) (small : length s ≤ 65536) where
-    lasting-short : (at : ℕ) (items : Items) → Standing voice s at items → lasting items + 16511 * at ≤ 16511 * length s
+    pub lasting-short : (at : ℕ) (items : Items) → Standing voice s at items → lasting items + 16511 * at ≤ 16511 * length s
     unfolding lasting sum
     lasting-short at [] st = omega arith
     lasting-short at (item ∷ items) st =

@@ -77,7 +77,7 @@ fn write_control(kind: u8, channel: u8, value: u8, out: &mut [u8], at: usize) ->
 }
 
 // So many bytes of the source from a place on.
-fn copy_part(source: &[u8], from: usize, count: usize, out: &mut [u8], at: usize) -> usize
+pub fn copy_part(source: &[u8], from: usize, count: usize, out: &mut [u8], at: usize) -> usize
     requires { ⌜ from + count ≤ length (now source) ⌝ }
     requires { ⌜ at + count ≤ length (now out) ⌝ }
     ensures { λ r. ⌜ r ≡ at + count ⌝ }

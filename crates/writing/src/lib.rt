@@ -9,11 +9,13 @@ mod list;
 
 pub use duration::duration_size;
 pub use duration::write_duration;
+pub use event::copy_part;
 pub use event::event_size;
 pub use event::write_event;
 pub use fits::event_fits;
 pub use item::item_size;
 pub use item::put_item;
 pub use item::write_item;
+pub use list::event_in;
 pub use list::write_end_mark;
 pub use list::write_items;

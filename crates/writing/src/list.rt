@@ -17,7 +17,7 @@ use model::Voice;
 use model::Wrote;
 
 // The event that a word of a kind up to 14 says.
-fn event_in(word: u32) -> Event
+pub fn event_in(word: u32) -> Event
     ensures { λ r. ⌜ r ≡ eventIn word ⌝ }
 {
     let kind = word / 0x8000000;

@@ -1,0 +1,283 @@
+//! The tunes of the folder tunes/: small files, each for one thing that a listing can show. Melodies are public domain.
+
+use crate::tune::{chunk, whole_file, worked_tune};
+
+/// A whole file and its name.
+pub struct Tune {
+    pub name: &'static str,
+    pub file: Vec<u8>,
+}
+
+/// The items of a sequence body. What was played last is waited for before the next event.
+#[derive(Default)]
+struct Body {
+    bytes: Vec<u8>,
+    wait: u32,
+}
+
+impl Body {
+    fn duration(&mut self, steps: u32) {
+        match steps {
+            0..=127 => self.bytes.push(steps as u8),
+            _ => {
+                self.bytes.extend([(128 + (steps - 128) / 128) as u8, ((steps - 128) % 128) as u8])
+            }
+        }
+    }
+
+    fn event(&mut self, bytes: &[u8]) {
+        while self.wait > 16_511 {
+            self.duration(16_511);
+            self.bytes.extend([0xFF, 0x00]);
+            self.wait -= 16_511;
+        }
+        let wait = std::mem::take(&mut self.wait);
+        self.duration(wait);
+        self.bytes.extend(bytes);
+    }
+
+    /// A note by its MIDI key, 37 to 84: 69 is the A of 440 Hz. It sounds for nine tenths of its length.
+    fn note(&mut self, channel: u8, key: u8, length: u32) {
+        let note = key - 37;
+        self.event(&[channel << 6 | (note / 12) << 4 | (note % 12 + 1)]);
+        self.duration((length * 9 / 10).max(1));
+        self.wait = length;
+    }
+
+    fn wave(&mut self, channel: u8, number: u8, length: u32) {
+        self.event(&[channel << 6 | number]);
+        self.duration((length * 9 / 10).max(1));
+        self.wait = length;
+    }
+
+    fn control(&mut self, channel: u8, code: u8, value: u8) {
+        self.event(&[0x00, channel << 6 | 3 << 4 | code, value]);
+    }
+
+    /// Form 0 is expression, 1 pitch bend, 2 modulation.
+    fn short(&mut self, channel: u8, form: u8, value: u8) {
+        self.event(&[0x00, channel << 6 | form << 4 | value]);
+    }
+
+    fn melody(&mut self, channel: u8, notes: &[(u8, u32)]) {
+        for &(key, length) in notes {
+            self.note(channel, key, length);
+        }
+    }
+
+    fn rest(&mut self, steps: u32) {
+        self.wait += steps;
+    }
+
+    /// Waits for what was played last, and says the address after it.
+    fn pause(&mut self) -> u32 {
+        if self.wait > 0 {
+            self.event(&[0xFF, 0x00]);
+        }
+        self.bytes.len() as u32
+    }
+
+    fn ended(mut self) -> Vec<u8> {
+        self.pause();
+        self.bytes.extend([0; 4]);
+        self.bytes
+    }
+}
+
+const CONTENTS: [u8; 5] = [0; 5];
+const STREAM: u8 = 0;
+const PHRASES: u8 = 1;
+
+/// 10 milliseconds a step.
+const TEN: u8 = 0x10;
+
+fn score(kind: u8, base: u8, parts: &[(&[u8; 4], Vec<u8>)]) -> Vec<u8> {
+    let mut body = vec![0, kind, base, base, 0, 0];
+    for (id, part) in parts {
+        body.extend(chunk(id, part));
+    }
+    chunk(b"MTR\0", &body)
+}
+
+fn file(chunks: &[Vec<u8>]) -> Vec<u8> {
+    whole_file(&[chunk(b"CNTI", &CONTENTS), chunks.concat()].concat())
+}
+
+fn stream(body: Body) -> Vec<u8> {
+    file(&[score(STREAM, TEN, &[(b"Mtsq", body.ended())])])
+}
+
+fn address(tag: &[u8], place: u32) -> Vec<u8> {
+    [tag, b":", &place.to_be_bytes()[..]].concat()
+}
+
+fn phrase(letter: u8, from: u32, to: u32) -> Vec<u8> {
+    [&[b'P', letter, b':'][..], &from.to_be_bytes(), &to.to_be_bytes()].concat()
+}
+
+const QUARTER: u32 = 48;
+const HALF: u32 = 96;
+
+/// Beethoven, the first two lines.
+fn ode(body: &mut Body) -> u32 {
+    let line = [64, 64, 65, 67, 67, 65, 64, 62, 60, 60, 62, 64].map(|key| (key, QUARTER));
+    body.melody(0, &line);
+    body.melody(0, &[(64, 72), (62, 24), (62, HALF)]);
+    let second = body.pause();
+    body.melody(0, &line);
+    body.melody(0, &[(62, 72), (60, 24), (60, HALF)]);
+    second
+}
+
+fn ode_to_joy() -> Vec<u8> {
+    let mut body = Body::default();
+    body.control(0, 0, 24);
+    body.control(0, 7, 100);
+    ode(&mut body);
+    stream(body)
+}
+
+fn second_line() -> Vec<u8> {
+    let mut body = Body::default();
+    let from = ode(&mut body);
+    let to = body.pause();
+    let seek = [address(b"st", from), address(b"sp", to)].join(&b',');
+    file(&[score(STREAM, TEN, &[(b"MspI", seek), (b"Mtsq", body.ended())])])
+}
+
+fn frere_jacques() -> Vec<u8> {
+    let (eighth, quarter) = (24, QUARTER);
+    let lines: [&[(u8, u32)]; 4] = [
+        &[(60, quarter), (62, quarter), (64, quarter), (60, quarter)],
+        &[(64, quarter), (65, quarter), (67, HALF)],
+        &[(67, eighth), (69, eighth), (67, eighth), (65, eighth), (64, quarter), (60, quarter)],
+        &[(60, quarter), (55, quarter), (60, HALF)],
+    ];
+    let mut body = Body::default();
+    let mut entries = Vec::new();
+    for (letter, line) in (b'a'..).zip(lines) {
+        let from = body.pause();
+        body.melody(0, line);
+        entries.push(phrase(letter, from, body.pause()));
+    }
+    entries.push(b"SL:aabbccdd".to_vec());
+    let parts = [(b"MspI", entries.join(&b',')), (b"Mtsq", body.ended())];
+    file(&[score(PHRASES, TEN, &parts)])
+}
+
+fn scale_on_four_channels() -> Vec<u8> {
+    let mut body = Body::default();
+    for channel in 0..4 {
+        body.control(channel, 0, 10 + channel);
+        body.control(channel, 0xA, 16 + 32 * channel);
+    }
+    for (place, key) in (0..).zip([60, 62, 64, 65, 67, 69, 71, 72]) {
+        body.note(place % 4, key, QUARTER);
+    }
+    stream(body)
+}
+
+fn octave_shifts() -> Vec<u8> {
+    let mut body = Body::default();
+    for shift in [0x00, 0x01, 0x04, 0x81, 0x84] {
+        body.control(0, 2, shift);
+        body.note(0, 69, QUARTER);
+        body.note(1, 69, QUARTER);
+    }
+    body.note(0, 37, QUARTER);
+    body.control(0, 2, 0x04);
+    body.note(0, 84, QUARTER);
+    stream(body)
+}
+
+fn short_forms() -> Vec<u8> {
+    let mut body = Body::default();
+    for form in 0..3 {
+        for value in [1, 2, 8, 14] {
+            body.short(form, form, value);
+        }
+    }
+    for (code, value) in [(1, 0xFF), (3, 0x40), (4, 0x40), (7, 0x7F), (0xA, 0x00), (0xB, 0x64)] {
+        body.control(3, code, value);
+    }
+    body.note(3, 69, QUARTER);
+    stream(body)
+}
+
+fn exclusives() -> Vec<u8> {
+    let mut body = Body::default();
+    body.note(0, 60, QUARTER);
+    body.event(&[0xFF, 0xF0, 3, 0x43, 0x02, 0xF7]);
+    body.note(0, 64, QUARTER);
+    body.event(&[0xFF, 0xF0, 7, 0x43, 0x02, 1, 0xF7, 2, 3, 0xF7]);
+    body.note(0, 67, HALF);
+    let setup = vec![0xFF, 0xF0, 4, 0x43, 0x02, 9, 0xF7];
+    file(&[score(STREAM, TEN, &[(b"Mtsu", setup), (b"Mtsq", body.ended())])])
+}
+
+fn waves() -> Vec<u8> {
+    let mut body = Body::default();
+    body.control(0, 7, 90);
+    for number in [1, 2, 1, 2, 1, 1, 2] {
+        body.wave(0, number, 24);
+    }
+    body.wave(1, 62, HALF);
+    let mut track = vec![0, STREAM, 0, 0, 0x11, 0x11];
+    for (id, part) in [(b"Atsq", body.ended()), (b"Awa\x01", vec![0; 6]), (b"Awa\x02", Vec::new())]
+    {
+        track.extend(chunk(id, &part));
+    }
+    file(&[chunk(b"ATR\0", &track)])
+}
+
+fn long_rests() -> Vec<u8> {
+    let mut body = Body::default();
+    body.note(0, 69, QUARTER);
+    body.rest(40_000);
+    body.note(0, 72, QUARTER);
+    body.rest(16_511 - QUARTER);
+    body.note(0, 76, QUARTER);
+    body.rest(100_000);
+    stream(body)
+}
+
+fn phrase_track(order: &[u8]) -> Vec<u8> {
+    let mut body = Body::default();
+    body.note(0, 69, QUARTER);
+    let to = body.pause();
+    let seek = [&phrase(b'z', 0, to), order].concat();
+    file(&[score(PHRASES, TEN, &[(b"MspI", seek), (b"Mtsq", body.ended())])])
+}
+
+fn after_closed_tracks() -> Vec<u8> {
+    let mut body = Body::default();
+    body.melody(0, &[(67, QUARTER), (64, QUARTER), (60, HALF)]);
+    let open = score(STREAM, 0x03, &[(b"Mtsq", body.ended())]);
+    file(&[chunk(b"OPDA", b"a leaf"), chunk(b"MTR\x01", &[2, 0, 0]), chunk(b"GTR\0", &[]), open])
+}
+
+fn gate_of_zero() -> Vec<u8> {
+    let body = vec![0x00, 0x29, 0x14, 0x10, 0x29, 0x00];
+    file(&[score(STREAM, TEN, &[(b"Mtsq", body)])])
+}
+
+pub fn all() -> Vec<Tune> {
+    let tunes: [(&'static str, Vec<u8>); 15] = [
+        ("worked", worked_tune()),
+        ("ode_to_joy", ode_to_joy()),
+        ("second_line", second_line()),
+        ("frere_jacques", frere_jacques()),
+        ("scale_on_four_channels", scale_on_four_channels()),
+        ("octave_shifts", octave_shifts()),
+        ("short_forms", short_forms()),
+        ("exclusives", exclusives()),
+        ("waves", waves()),
+        ("long_rests", long_rests()),
+        ("empty_order", phrase_track(b",SL:")),
+        ("after_closed_tracks", after_closed_tracks()),
+        ("no_order", phrase_track(b"")),
+        ("gate_of_zero", gate_of_zero()),
+        ("no_readable_track", file(&[chunk(b"GTR\0", b"pictures")])),
+    ];
+    tunes.map(|(name, file)| Tune { name, file }).into()
+}
