@@ -1,26 +1,26 @@
 -- The check of a chunk list: the invariant of `check_list`'s loop, and what each way out of it and each turn makes of it.
-use Prim.Native.Nat.{ℕ, _+_, _-_, _*_, _<_, _≤_}
+use Prim.Native.Nat.{ℕ, _+_, _-_, _/_, _<_, _≤_}
 use mathlib.Core.Path.{_≡_, refl, sym, _∙_, ap, subst}
 use mathlib.Core.Bool.{Bool, true, false, not}
 use mathlib.Core.List.{List, [], _∷_}
-use lib.ListN.{length, take, set, length-set}
+use lib.ListN.{length, set, replicate}
 use native.Mathlib.Omega.{arith}
 use borrow.Author.Tests.{ltb-false, not-true, not-false}
 use Rattle.model.specs.Words.{if_then_else_, _or_, _≡?_, any, Checked, Checked.fine, Checked.refused, passed, Step, Step.met, Step.stuck, walkTo, inTurn}
-use Rattle.model.specs.Bytes.{number}
+use Rattle.model.specs.Bytes.{_!_, number}
 use Rattle.model.specs.Item.{checkAnswer}
 use Rattle.model.specs.Chunk.{Chunk, readChunk, chunkMet, chunkStep, allowedOnce, chunkList}
 use Rattle.model.specs.Track.{isAllowed}
 use Rattle.model.specs.declared.ListOf.{ListOf}
-use Rattle.chunks.specs.Kept.{isAmong}
+use Rattle.chunks.specs.Kept.{isAmong, slotOf, chain, Falling}
 use Rattle.model.specs.declared.Check.{Check}
 use Rattle.model.specs.declared.Check.the-variants as check
 use Rattle.model.specs.declared.ReadChunk.{ReadChunk}
 use Rattle.model.specs.declared.ReadChunk.the-variants.{Is, Cut}
 use Rattle.model.proofs.Tests.{if-all}
 use Rattle.model.proofs.Answers.{answer-first}
+use Rattle.chunks.proofs.Chains.{Chained, none-chained, chained-among, one-more-chained, slot-small}
 use Rattle.model.proofs.Walks.{GoesOn, Left, left-starts, left-ends, left-stuck, left-refused, left-next}
-use Rattle.chunks.proofs.Members.{one-more}
 
 -- A chunk that is read has its header and its body before the list's end, and its ID is that of its four bytes.
 abbrev pub ChunkAhead : List ℕ → ℕ → ℕ → ReadChunk → Type 0
@@ -57,35 +57,35 @@ module _ (allowed : ℕ → Bool) (before : List Chunk) (chunk : Chunk) where
   unfolding allowedOnce if_then_else_
   once h g = rw (h, g)
 
--- so many chunks are checked, and their IDs are kept
-pub record Checking (list : ListOf) (s : List ℕ) (start end : ℕ) (ids : List ℕ) (count at : ℕ) : Type 0 where
+-- some chunks are checked, and the places of their IDs are in chains
+pub record Checking (list : ListOf) (s : List ℕ) (start end : ℕ) (lasts earlier : List ℕ) (at : ℕ) : Type 0 where
   pub before : List Chunk
   pub left : Checked (List Chunk)
   pub walk : Left 4 end (chunkStep s end) (allowedOnce (isAllowed list)) at before left
   pub within : end ≤ length s
   pub small : end ≤ 65536
-  pub room : length ids ≡ 8192
-  pub few : 8 * count ≤ at
-  pub kept : (id : ℕ) → any (λ earlier. earlier .id ≡? id) before ≡ isAmong id (take count ids)
+  pub places : List ℕ
+  pub kept : (id : ℕ) → any (λ chunk. chunk .id ≡? id) before ≡ isAmong s id places
+  pub chained : Chained s places lasts earlier at
   pub same : checkAnswer left ≡ checkAnswer (chunkList (isAllowed list) s start end)
 
-pub list-starts : (list : ListOf) (s : List ℕ) (start end : ℕ) (ids : List ℕ) → start ≤ end → end ≤ length s → end ≤ 65536 → length ids ≡ 8192
-    → Checking list s start end ids 0 start
+pub list-starts : (list : ListOf) (s : List ℕ) (start end : ℕ) → start ≤ end → end ≤ length s → end ≤ 65536
+    → Checking list s start end (replicate 4093 0) (replicate 8192 0) start
 unfolding chunkList any isAmong
-list-starts list s start end ids h within small room =
+list-starts list s start end h within small =
     record {
       before = [];
       left = inTurn (allowedOnce (isAllowed list)) [] (walkTo 4 end (chunkStep s end) start);
       walk = left-starts 4 end (chunkStep s end) (allowedOnce (isAllowed list)) start h;
       within = within;
       small = small;
-      room = room;
-      few = omega arith;
+      places = [];
       kept = λ id. refl;
+      chained = none-chained s start;
       same = refl;
     }
 
-module _ (list : ListOf) (s : List ℕ) (start end : ℕ) (ids : List ℕ) (count at : ℕ) (c : Checking list s start end ids count at) where
+module _ (list : ListOf) (s : List ℕ) (start end : ℕ) (lasts earlier : List ℕ) (at : ℕ) (c : Checking list s start end lasts earlier at) where
   pub list-ends : end ≤ at → check.Passed ≡ checkAnswer (chunkList (isAllowed list) s start end)
   unfolding checkAnswer
   list-ends past = ap checkAnswer (sym (left-ends _ _ _ _ at (c .before) (c .left) (c .walk) past)) ∙ c .same
@@ -109,8 +109,16 @@ module _ (list : ListOf) (s : List ℕ) (start end : ℕ) (ids : List ℕ) (coun
       pub list-nears : end - next < end - at
       list-nears = let a = ahead (Is id size next) e in omega arith
 
-      pub list-room : count < 8192
-      list-room = let a = ahead (Is id size next) e in omega (arith, c .few, c .small)
+      pub list-small : at + 1 < 65536
+      list-small = let a = ahead (Is id size next) e in omega (arith, c .small)
+
+      pub list-eight : at / 8 < 8192
+      list-eight = omega (arith, list-small)
+
+      pub list-last : (slot last : ℕ) → last ≡ lasts ! slot → slot < 4093 → last + 3 ≤ length s
+      list-last slot last is-last inside =
+          let a = ahead (Is id size next) e in
+          omega (arith, c .within, c .chained .passed slot inside)
 
       chunk : Chunk
       chunk = record { id = id; place = at; size = size }
@@ -127,34 +135,41 @@ module _ (list : ListOf) (s : List ℕ) (start end : ℕ) (ids : List ℕ) (coun
         is-allowed : isAllowed list id ≡ true
         is-allowed = ap (isAllowed list) (ahead (Is id size next) e .0) ∙ sym p ∙ not-false ok h
 
-        pub list-again : (twice : Bool) → twice ≡ isAmong id (take count ids) → twice ≡ true
-            → check.Refused 6 at ≡ checkAnswer (chunkList (isAllowed list) s start end)
-        unfolding chunk chunkMet checkAnswer
-        list-again twice q g =
-            ap checkAnswer
-            (sym (left-refused _ _ _ _ at (c .before) (c .left) (c .walk) chunk next 6 at here (stands (Is id size next) e)
-            (again (isAllowed list) (c .before) chunk is-allowed (c .kept id ∙ sym q ∙ g))))
-            ∙ c .same
+        module _ (slot : ℕ) (is-slot : slot ≡ slotOf id) (last : ℕ) (is-last : last ≡ lasts ! slot) (twice : Bool) (q : twice ≡ isAmong s id (chain earlier last)) where
+          stood : twice ≡ any (λ chunk. chunk .id ≡? id) (c .before)
+          stood =
+              q
+              ∙ ap (λ (n : ℕ). isAmong s id (chain earlier n)) (is-last ∙ ap (λ (n : ℕ). lasts ! n) is-slot)
+              ∙ chained-among s (c .places) lasts earlier at (c .chained) id
+              ∙ sym (c .kept id)
 
-        pub list-goes-on : (twice : Bool) → twice ≡ isAmong id (take count ids) → twice ≡ false
-            → Checking list s start end (set ids count id) (count + 1) next
-        unfolding chunk chunkMet any
-        list-goes-on twice q g =
-            let a = ahead (Is id size next) e in
-            let near : (at < next) × (next ≤ end) = (omega arith, a .2) in
-            let n =
-            left-next _ _ _ _ at (c .before) (c .left) (c .walk) chunk next here (stands (Is id size next) e)
-            (near .0, near .1) (once (isAllowed list) (c .before) chunk is-allowed (c .kept id ∙ sym q ∙ g)) in
-            record {
-              before = chunk ∷ c .before;
-              left = n .0;
-              walk = n .1;
-              within = c .within;
-              small = c .small;
-              room = length-set ids count id ∙ c .room;
-              few = omega (arith, c .few);
-              kept = λ other. ap (λ (b : Bool). (id ≡? other) or b) (c .kept other) ∙ sym (one-more other id ids count (omega (arith, c .few, c .room, c .small)));
-              same = sym (answer-first chunk (n .0)) ∙ ap checkAnswer (sym (n .2)) ∙ c .same;
-            }
+          pub list-again : twice ≡ true → check.Refused 6 at ≡ checkAnswer (chunkList (isAllowed list) s start end)
+          unfolding chunk chunkMet checkAnswer
+          list-again g =
+              ap checkAnswer
+              (sym (left-refused _ _ _ _ at (c .before) (c .left) (c .walk) chunk next 6 at here (stands (Is id size next) e)
+              (again (isAllowed list) (c .before) chunk is-allowed (sym stood ∙ g))))
+              ∙ c .same
 
-pub ruleset listing = (list-starts, list-ends, list-cut, list-there, list-nears, list-room, list-not-allowed, list-again, list-goes-on)
+          pub list-goes-on : twice ≡ false → Checking list s start end (set lasts slot (at + 1)) (set earlier (at / 8) last) next
+          unfolding chunk chunkMet any isAmong
+          list-goes-on g =
+              let a = ahead (Is id size next) e in
+              let near : (at < next) × (next ≤ end) = (omega arith, a .2) in
+              let n =
+              left-next _ _ _ _ at (c .before) (c .left) (c .walk) chunk next here (stands (Is id size next) e)
+              (near .0, near .1) (once (isAllowed list) (c .before) chunk is-allowed (sym stood ∙ g)) in
+              record {
+                before = chunk ∷ c .before;
+                left = n .0;
+                walk = n .1;
+                within = c .within;
+                small = c .small;
+                places = at ∷ c .places;
+                kept = λ other. rw (a .0) (ap (λ (b : Bool). (number 4 s at ≡? other) or b) (c .kept other));
+                chained = one-more-chained s (c .places) lasts earlier at (c .chained) (omega (arith, list-small)) slot last
+                    (rw is-slot (slot-small id)) is-last next (is-slot ∙ ap slotOf (a .0)) (omega arith);
+                same = sym (answer-first chunk (n .0)) ∙ ap checkAnswer (sym (n .2)) ∙ c .same;
+              }
+
+pub ruleset listing = (list-starts, list-ends, list-cut, list-there, list-nears, list-small, list-eight, list-last, list-not-allowed, list-again, list-goes-on)

@@ -1,28 +1,36 @@
 // The check of a chunk list, chunk by chunk: 4, then 9, then 6.
 ghost use mathlib.Core.Path.{_≡_};
-ghost use Prim.Native.Nat.{_≤_};
-ghost use lib.ListN.{length, take};
+ghost use Prim.Native.Nat.{_+_, _<_, _≤_};
+ghost use lib.ListN.{length};
 ghost use Rattle.model.specs.Item.{checkAnswer};
 ghost use Rattle.model.specs.Chunk.{chunkList};
 ghost use Rattle.model.specs.Track.{isAllowed};
-ghost use Rattle.chunks.specs.Kept.{isAmong};
+ghost use Rattle.chunks.specs.Kept.{isAmong, slotOf, chain, Falling};
 use super::header::is_allowed;
 use super::header::read_chunk;
 use model::Check;
 use model::ListOf;
 use model::ReadChunk;
 
-// Whether an ID is among the first of those kept.
-fn has(ids: &[u32], count: usize, id: u32) -> bool
-    requires { ⌜ count ≤ length (now ids) ⌝ }
-    ensures { λ r. ⌜ r ≡ isAmong id (take count (now (ids .entry))) ⌝ }
+// The slot by which an ID is looked for.
+fn slot_of(id: u32) -> usize
+    ensures { λ r. ⌜ (r ≡ slotOf id) × (r < 4093) ⌝ }
 {
-    let mut i = 0;
-    while i < count {
-        if ids[i] == id {
+    (id % 4093) as usize
+}
+
+// Whether an ID stands at a place of a chain.
+fn is_in_chain(s: &[u8], earlier: &[u16], entered: u16, id: u32) -> bool
+    requires { ⌜ Falling (now earlier) × (entered + 3 ≤ length (now s)) ⌝ }
+    ensures { λ r. ⌜ r ≡ isAmong (now (s .entry)) id (chain (now (earlier .entry)) entered) ⌝ }
+{
+    let mut ahead = entered;
+    while 0 < ahead {
+        let place = (ahead - 1) as usize;
+        if numbers::number_4(s, place) == id {
             return true;
         }
-        i += 1;
+        ahead = earlier[place / 8];
     }
     false
 }
@@ -31,8 +39,8 @@ pub fn check_list(list: ListOf, s: &[u8], start: usize, end: usize) -> Check
     requires { ⌜ (start ≤ end) × (end ≤ length (now s)) × (end ≤ 65536) ⌝ }
     ensures { λ r. ⌜ r ≡ checkAnswer (chunkList (isAllowed list) (now (s .entry)) start end) ⌝ }
 {
-    let mut ids = [0u32; 8192];
-    let mut count: usize = 0;
+    let mut lasts = [0u16; 4093];
+    let mut earlier = [0u16; 8192];
     let mut at = start;
     while at < end {
         let ReadChunk::Is { id, size: _, next } = read_chunk(s, end, at) else {
@@ -47,14 +55,16 @@ pub fn check_list(list: ListOf, s: &[u8], start: usize, end: usize) -> Check
                 place: at,
             };
         }
-        if has(&ids, count, id) {
+        let slot = slot_of(id);
+        let last = lasts[slot];
+        if is_in_chain(s, &earlier, last, id) {
             return Check::Refused {
                 number: 6,
                 place: at,
             };
         }
-        ids[count] = id;
-        count += 1;
+        earlier[at / 8] = last;
+        lasts[slot] = (at + 1) as u16;
         at = next;
     }
     Check::Passed
