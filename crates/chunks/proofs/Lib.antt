@@ -1,4 +1,4 @@
 pub mod Matches
-pub mod Chains
+pub mod Trees
 pub mod Lists
 pub mod Searches

@@ -1,25 +1,25 @@
 -- The check of a chunk list: the invariant of `check_list`'s loop, and what each way out of it and each turn makes of it.
-use Prim.Native.Nat.{ℕ, _+_, _-_, _/_, _<_, _≤_}
+use Prim.Native.Nat.{ℕ, _+_, _-_, _<_, _≤_}
 use mathlib.Core.Path.{_≡_, refl, sym, _∙_, ap, subst}
 use mathlib.Core.Bool.{Bool, true, false, not}
 use mathlib.Core.List.{List, [], _∷_}
 use lib.ListN.{length, set, replicate}
 use native.Mathlib.Omega.{arith}
-use borrow.Author.Tests.{ltb-false, not-true, not-false}
-use Rattle.model.specs.Words.{if_then_else_, _or_, _≡?_, any, Checked, Checked.fine, Checked.refused, passed, Step, Step.met, Step.stuck, walkTo, inTurn}
+use borrow.Author.Tests.{lt-ltb, le-ltb, ltb-false, not-true, not-false}
+use Rattle.model.specs.Words.{if_then_else_, _or_, _<?_, _≡?_, any, Checked, Checked.fine, Checked.refused, passed, Step, Step.met, Step.stuck, walkTo, inTurn}
 use Rattle.model.specs.Bytes.{_!_, number}
 use Rattle.model.specs.Item.{checkAnswer}
 use Rattle.model.specs.Chunk.{Chunk, readChunk, chunkMet, chunkStep, allowedOnce, chunkList}
 use Rattle.model.specs.Track.{isAllowed}
 use Rattle.model.specs.declared.ListOf.{ListOf}
-use Rattle.chunks.specs.Kept.{isAmong, slotOf, chain, Falling}
+use Rattle.chunks.specs.Kept.{isAmong, linkOf}
 use Rattle.model.specs.declared.Check.{Check}
 use Rattle.model.specs.declared.Check.the-variants as check
 use Rattle.model.specs.declared.ReadChunk.{ReadChunk}
 use Rattle.model.specs.declared.ReadChunk.the-variants.{Is, Cut}
 use Rattle.model.proofs.Tests.{if-all}
 use Rattle.model.proofs.Answers.{answer-first}
-use Rattle.chunks.proofs.Chains.{Chained, none-chained, chained-among, one-more-chained, slot-small}
+use Rattle.chunks.proofs.Trees.{Hanging, none-hang, one-more-hangs}
 use Rattle.model.proofs.Walks.{GoesOn, Left, left-starts, left-ends, left-stuck, left-refused, left-next}
 
 -- A chunk that is read has its header and its body before the list's end, and its ID is that of its four bytes.
@@ -57,8 +57,8 @@ module _ (allowed : ℕ → Bool) (before : List Chunk) (chunk : Chunk) where
   unfolding allowedOnce if_then_else_
   once h g = rw (h, g)
 
--- some chunks are checked, and the places of their IDs are in chains
-pub record Checking (list : ListOf) (s : List ℕ) (start end : ℕ) (lasts earlier : List ℕ) (at : ℕ) : Type 0 where
+-- some chunks are checked, and hang in the trees
+pub record Checking (list : ListOf) (s : List ℕ) (start end : ℕ) (links : List ℕ) (at : ℕ) : Type 0 where
   pub before : List Chunk
   pub left : Checked (List Chunk)
   pub walk : Left 4 end (chunkStep s end) (allowedOnce (isAllowed list)) at before left
@@ -66,11 +66,11 @@ pub record Checking (list : ListOf) (s : List ℕ) (start end : ℕ) (lasts earl
   pub small : end ≤ 65536
   pub places : List ℕ
   pub kept : (id : ℕ) → any (λ chunk. chunk .id ≡? id) before ≡ isAmong s id places
-  pub chained : Chained s places lasts earlier at
+  pub hanging : Hanging s places links at
   pub same : checkAnswer left ≡ checkAnswer (chunkList (isAllowed list) s start end)
 
 pub list-starts : (list : ListOf) (s : List ℕ) (start end : ℕ) → start ≤ end → end ≤ length s → end ≤ 65536
-    → Checking list s start end (replicate 4093 0) (replicate 8192 0) start
+    → Checking list s start end (replicate 20477 0) start
 unfolding chunkList any isAmong
 list-starts list s start end h within small =
     record {
@@ -81,11 +81,11 @@ list-starts list s start end h within small =
       small = small;
       places = [];
       kept = λ id. refl;
-      chained = none-chained s start;
+      hanging = none-hang s start;
       same = refl;
     }
 
-module _ (list : ListOf) (s : List ℕ) (start end : ℕ) (lasts earlier : List ℕ) (at : ℕ) (c : Checking list s start end lasts earlier at) where
+module _ (list : ListOf) (s : List ℕ) (start end : ℕ) (links : List ℕ) (at : ℕ) (c : Checking list s start end links at) where
   pub list-ends : end ≤ at → check.Passed ≡ checkAnswer (chunkList (isAllowed list) s start end)
   unfolding checkAnswer
   list-ends past = ap checkAnswer (sym (left-ends _ _ _ _ at (c .before) (c .left) (c .walk) past)) ∙ c .same
@@ -112,14 +112,6 @@ module _ (list : ListOf) (s : List ℕ) (start end : ℕ) (lasts earlier : List 
       pub list-small : at + 1 < 65536
       list-small = let a = ahead (Is id size next) e in omega (arith, c .small)
 
-      pub list-eight : at / 8 < 8192
-      list-eight = omega (arith, list-small)
-
-      pub list-last : (slot last : ℕ) → last ≡ lasts ! slot → slot < 4093 → last + 3 ≤ length s
-      list-last slot last is-last inside =
-          let a = ahead (Is id size next) e in
-          omega (arith, c .within, c .chained .passed slot inside)
-
       chunk : Chunk
       chunk = record { id = id; place = at; size = size }
 
@@ -135,30 +127,26 @@ module _ (list : ListOf) (s : List ℕ) (start end : ℕ) (lasts earlier : List 
         is-allowed : isAllowed list id ≡ true
         is-allowed = ap (isAllowed list) (ahead (Is id size next) e .0) ∙ sym p ∙ not-false ok h
 
-        module _ (slot : ℕ) (is-slot : slot ≡ slotOf id) (last : ℕ) (is-last : last ≡ lasts ! slot) (twice : Bool) (q : twice ≡ isAmong s id (chain earlier last)) where
-          stood : twice ≡ any (λ chunk. chunk .id ≡? id) (c .before)
-          stood =
-              q
-              ∙ ap (λ (n : ℕ). isAmong s id (chain earlier n)) (is-last ∙ ap (λ (n : ℕ). lasts ! n) is-slot)
-              ∙ chained-among s (c .places) lasts earlier at (c .chained) id
-              ∙ sym (c .kept id)
+        module _ (link : ℕ) (is-link : link ≡ linkOf s links id) where
+          stood : any (λ chunk. chunk .id ≡? id) (c .before) ≡ (0 <? links ! link)
+          stood = c .kept id ∙ c .hanging .found id ∙ ap (λ (n : ℕ). 0 <? links ! n) (sym is-link)
 
-          pub list-again : twice ≡ true → check.Refused 6 at ≡ checkAnswer (chunkList (isAllowed list) s start end)
+          pub list-again : 0 < links ! link → check.Refused 6 at ≡ checkAnswer (chunkList (isAllowed list) s start end)
           unfolding chunk chunkMet checkAnswer
-          list-again g =
+          list-again hangs =
               ap checkAnswer
               (sym (left-refused _ _ _ _ at (c .before) (c .left) (c .walk) chunk next 6 at here (stands (Is id size next) e)
-              (again (isAllowed list) (c .before) chunk is-allowed (sym stood ∙ g))))
+              (again (isAllowed list) (c .before) chunk is-allowed (stood ∙ lt-ltb 0 (links ! link) hangs))))
               ∙ c .same
 
-          pub list-goes-on : twice ≡ false → Checking list s start end (set lasts slot (at + 1)) (set earlier (at / 8) last) next
+          pub list-goes-on : link < 20477 → links ! link ≤ 0 → Checking list s start end (set links link (at + 1)) next
           unfolding chunk chunkMet any isAmong
-          list-goes-on g =
+          list-goes-on inside none =
               let a = ahead (Is id size next) e in
               let near : (at < next) × (next ≤ end) = (omega arith, a .2) in
               let n =
               left-next _ _ _ _ at (c .before) (c .left) (c .walk) chunk next here (stands (Is id size next) e)
-              (near .0, near .1) (once (isAllowed list) (c .before) chunk is-allowed (sym stood ∙ g)) in
+              (near .0, near .1) (once (isAllowed list) (c .before) chunk is-allowed (stood ∙ le-ltb 0 (links ! link) none)) in
               record {
                 before = chunk ∷ c .before;
                 left = n .0;
@@ -167,9 +155,9 @@ module _ (list : ListOf) (s : List ℕ) (start end : ℕ) (lasts earlier : List 
                 small = c .small;
                 places = at ∷ c .places;
                 kept = λ other. rw (a .0) (ap (λ (b : Bool). (number 4 s at ≡? other) or b) (c .kept other));
-                chained = one-more-chained s (c .places) lasts earlier at (c .chained) (omega (arith, list-small)) slot last
-                    (rw is-slot (slot-small id)) is-last next (is-slot ∙ ap slotOf (a .0)) (omega arith);
+                hanging = one-more-hangs s (c .places) links at (c .hanging) link (is-link ∙ ap (linkOf s links) (a .0)) inside (omega arith) next
+                    (omega arith) (omega (arith, c .small)) (omega (arith, c .within));
                 same = sym (answer-first chunk (n .0)) ∙ ap checkAnswer (sym (n .2)) ∙ c .same;
               }
 
-pub ruleset listing = (list-starts, list-ends, list-cut, list-there, list-nears, list-small, list-eight, list-last, list-not-allowed, list-again, list-goes-on)
+pub ruleset listing = (list-starts, list-ends, list-cut, list-there, list-nears, list-small, list-not-allowed, list-again, list-goes-on)

@@ -1,46 +1,42 @@
 // The check of a chunk list, chunk by chunk: 4, then 9, then 6.
 ghost use mathlib.Core.Path.{_≡_};
-ghost use Prim.Native.Nat.{_+_, _<_, _≤_};
+ghost use Prim.Native.Nat.{_<_, _≤_};
 ghost use lib.ListN.{length};
 ghost use Rattle.model.specs.Item.{checkAnswer};
 ghost use Rattle.model.specs.Chunk.{chunkList};
 ghost use Rattle.model.specs.Track.{isAllowed};
-ghost use Rattle.chunks.specs.Kept.{isAmong, slotOf, chain, Falling};
+ghost use Rattle.chunks.specs.Kept.{linkOf, Rising};
 use super::header::is_allowed;
 use super::header::read_chunk;
 use model::Check;
 use model::ListOf;
 use model::ReadChunk;
 
-// The slot by which an ID is looked for.
-fn slot_of(id: u32) -> usize
-    ensures { λ r. ⌜ (r ≡ slotOf id) × (r < 4093) ⌝ }
+// The link by which the chunk with an ID hangs, or would hang.
+fn find_link(s: &[u8], links: &[u16], id: u32) -> usize
+    requires { ⌜ Rising (now s) (now links) ⌝ }
+    ensures { λ r. ⌜ (r ≡ linkOf (now (s .entry)) (now (links .entry)) id) × (r < 20477) ⌝ }
 {
-    (id % 4093) as usize
-}
-
-// Whether an ID stands at a place of a chain.
-fn is_in_chain(s: &[u8], earlier: &[u16], entered: u16, id: u32) -> bool
-    requires { ⌜ Falling (now earlier) × (entered + 3 ≤ length (now s)) ⌝ }
-    ensures { λ r. ⌜ r ≡ isAmong (now (s .entry)) id (chain (now (earlier .entry)) entered) ⌝ }
-{
-    let mut ahead = entered;
+    let mut link = (id % 4093) as usize;
+    let mut bits = id / 4093;
+    let mut ahead = links[link];
     while 0 < ahead {
         let place = (ahead - 1) as usize;
         if numbers::number_4(s, place) == id {
-            return true;
+            return link;
         }
-        ahead = earlier[place / 8];
+        link = 4093 + place / 8 * 2 + (bits % 2) as usize;
+        bits = bits / 2;
+        ahead = links[link];
     }
-    false
+    link
 }
 
 pub fn check_list(list: ListOf, s: &[u8], start: usize, end: usize) -> Check
     requires { ⌜ (start ≤ end) × (end ≤ length (now s)) × (end ≤ 65536) ⌝ }
     ensures { λ r. ⌜ r ≡ checkAnswer (chunkList (isAllowed list) (now (s .entry)) start end) ⌝ }
 {
-    let mut lasts = [0u16; 4093];
-    let mut earlier = [0u16; 8192];
+    let mut links = [0u16; 20477];
     let mut at = start;
     while at < end {
         let ReadChunk::Is { id, size: _, next } = read_chunk(s, end, at) else {
@@ -55,16 +51,14 @@ pub fn check_list(list: ListOf, s: &[u8], start: usize, end: usize) -> Check
                 place: at,
             };
         }
-        let slot = slot_of(id);
-        let last = lasts[slot];
-        if is_in_chain(s, &earlier, last, id) {
+        let link = find_link(s, &links, id);
+        if 0 < links[link] {
             return Check::Refused {
                 number: 6,
                 place: at,
             };
         }
-        earlier[at / 8] = last;
-        lasts[slot] = (at + 1) as u16;
+        links[link] = (at + 1) as u16;
         at = next;
     }
     Check::Passed
