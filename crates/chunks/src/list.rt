@@ -5,7 +5,7 @@ ghost use lib.ListN.{length};
 ghost use Rattle.model.specs.Item.{checkAnswer};
 ghost use Rattle.model.specs.Chunk.{chunkList};
 ghost use Rattle.model.specs.Track.{isAllowed};
-ghost use Rattle.chunks.specs.Kept.{linkOf, Rising};
+ghost use Rattle.chunks.specs.Kept.{linkCount, linkOf, Rising};
 use super::header::is_allowed;
 use super::header::read_chunk;
 use model::Check;
@@ -15,7 +15,7 @@ use model::ReadChunk;
 // The link by which the chunk with an ID hangs, or would hang.
 fn find_link(s: &[u8], links: &[u16], id: u32) -> usize
     requires { ⌜ Rising (now s) (now links) ⌝ }
-    ensures { λ r. ⌜ (r ≡ linkOf (now (s .entry)) (now (links .entry)) id) × (r < 20477) ⌝ }
+    ensures { λ r. ⌜ (r ≡ linkOf (now (s .entry)) (now (links .entry)) id) × (r < linkCount) ⌝ }
 {
     let mut link = (id % 4093) as usize;
     let mut bits = id / 4093;
