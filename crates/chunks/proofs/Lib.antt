@@ -1,4 +1,4 @@
 pub mod Matches
-pub mod Members
+pub mod Trees
 pub mod Lists
 pub mod Searches
