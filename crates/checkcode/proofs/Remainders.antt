@@ -1,34 +1,57 @@
--- A table of remainders is known by a test that is computed at each of its 256 entries.
-use Prim.Native.Nat.{ℕ, zero, suc, _<_}
-use mathlib.Core.Bool.{Bool, true}
-use mathlib.Core.List.{List}
-use mathlib.Core.Path.{_≡_, subst}
-use native.Mathlib.Decide.{decLt}
+-- Tables of remainders are known by two tests that are computed at their entries: the first table has what each byte leaves, and each
+-- entry of a later table what that of the table before leaves where one zero byte more follows.
+use Prim.Native.Nat.{ℕ, zero, suc, _+_, _*_, _<_}
+use mathlib.Core.Bool.{Bool, true, false}
+use mathlib.Core.List.{List, [], _∷_}
+use mathlib.Core.Path.{_≡_, refl, sym, ap, _∙_}
 use native.Mathlib.Omega.{arith}
+use lib.ListN.{length, drop, length-drop}
+use lib.Seq.{getD-drop}
 use borrow.Author.Tests.{eqb-true}
 use Rattle.model.specs.Words.{_and_, _≡?_}
 use Rattle.model.specs.Bytes.{_!_}
-use Rattle.model.specs.CheckCode.{byteStep}
+use Rattle.model.specs.CheckCode.{byteStep, remainderFrom}
+use Rattle.model.proofs.Below.{eachBelow, below}
 use Rattle.model.proofs.Tests.{and-left, and-right}
 use Rattle.checkcode.specs.Remainders.{Remainders}
+use Rattle.checkcode.proofs.Linear.{zeros}
 
--- a test at each number below a bound
-unfoldable pub below : ℕ → (ℕ → Bool) → Bool
-below zero test = true
-below (suc n) test = test n and below n test
+abbrev pub leaves : List ℕ → ℕ → Bool
+leaves tables byte = tables ! byte ≡? byteStep 0 byte
 
-below-at : (n : ℕ) (test : ℕ → Bool) → below n test ≡ true → (k : ℕ) → k < n → test k ≡ true
-unfolding below
-below-at zero test all k h = absurd (omega arith)
-below-at (suc n) test all k h =
-    elim (decLt k n) [
-      | yes p ↦ below-at n test (and-right _ _ all) k p
-      | no q ↦ let e : n ≡ k = omega arith in subst (λ (m : ℕ). test m ≡ true) e (and-left _ _ all)
-    ]
+-- each number of a row is what that of another row leaves where a zero byte follows
+unfoldable pub follow : List ℕ → List ℕ → Bool
+follow before [] = true
+follow [] (next ∷ after) = false
+follow (r ∷ before) (next ∷ after) = (next ≡? byteStep r 0) and follow before after
 
-abbrev pub holds : List ℕ → ℕ → Bool
-holds table byte = table ! byte ≡? byteStep 0 byte
+follows : (before after : List ℕ) → follow before after ≡ true → (k : ℕ) → k < length after → after ! k ≡ byteStep (before ! k) 0
+unfolding follow
+follows before [] h k l = absurd (omega arith)
+follows [] (next ∷ after) h k l = let z : _≡_ {A = ℕ} 0 1 = cc in absurd (omega arith)
+follows (r ∷ before) (next ∷ after) h zero l = eqb-true next (byteStep r 0) (and-left _ _ h)
+follows (r ∷ before) (next ∷ after) h (suc k) l = follows before after (and-right _ _ h) k (omega arith)
 
-pub remainders : (table : List ℕ) → below 256 (holds table) ≡ true → Remainders table
-unfolding Remainders
-remainders table all byte h = eqb-true (table ! byte) (byteStep 0 byte) (below-at 256 (holds table) all byte h)
+last-zero : (n r : ℕ) → remainderFrom (byteStep r 0) (zeros n) ≡ byteStep (remainderFrom r (zeros n)) 0
+unfolding remainderFrom
+last-zero zero r = refl
+last-zero (suc n) r = last-zero n (byteStep r 0)
+
+pub remainders :
+    (tables : List ℕ)
+    → length tables ≡ 2048
+    → eachBelow (leaves tables) 256 ≡ true
+    → follow tables (drop 256 tables) ≡ true
+    → Remainders tables
+unfolding Remainders remainderFrom
+remainders tables size first later zero byte t b =
+    ap (_!_ tables) (omega arith) ∙ eqb-true (tables ! byte) (byteStep 0 byte) (below (leaves tables) 256 first byte b)
+remainders tables size first later (suc table) byte t b =
+    ap (_!_ tables) (omega arith)
+    ∙ sym (getD-drop 256 tables entry 0)
+    ∙ follows tables (drop 256 tables) later entry (omega (arith, length-drop 256 tables))
+    ∙ ap (λ (r : ℕ). byteStep r 0) (remainders tables size first later table byte (omega arith) b)
+    ∙ sym (last-zero table (byteStep 0 byte))
+  where
+    entry : ℕ
+    entry = table * 256 + byte
