@@ -5,7 +5,7 @@ use mathlib.Core.Path.{_≡_, refl, sym, ap, ap₂, _∙_}
 use native.Mathlib.Nat.{add-zero, add-suc, div-add-mod'}
 use native.Mathlib.Omega.{arith}
 use lib.Bits.{bitXor, xor-lt, xor-block, xor-shifted, xor-zero-r}
-use lib.ListN.{length, take, drop}
+use lib.ListN.{length, take, drop, length-replicate}
 use lib.Seq.{drop-cons}
 use Rattle.model.specs.Bytes.{_!_, part}
 use Rattle.model.specs.CheckCode.{bitStep, byteStep, remainderFrom}
@@ -77,18 +77,41 @@ apart r (byte ∷ bytes) h k =
     two : byteStep r byte ≡ bitXor rest own
     two = ap (λ (x : ℕ). byteStep x byte) (sym (xor-zero-r r)) ∙ byte-linear r 0 0 byte h (omega arith) (omega arith) (k .0)
 
--- the exclusive or of a number and of what each byte leaves where zeros follow it
-abbrev gathered : ℕ → List ℕ → ℕ
-gathered sum [] = sum
-gathered sum (byte ∷ bytes) = gathered (bitXor sum (left byte (length bytes))) bytes
+zeros-are-bytes : (n : ℕ) → Bytes (zeros n)
+zeros-are-bytes zero = tt
+zeros-are-bytes (suc n) = (omega arith, zeros-are-bytes n)
 
-gathers : (sum : ℕ) (bytes : List ℕ) → Bytes bytes → gathered sum bytes ≡ bitXor sum (remainderFrom 0 bytes)
+first-apart : (byte : ℕ) (bytes : List ℕ) (n : ℕ) → byte < 256 → Bytes bytes → length bytes ≡ n → remainderFrom 0 (byte ∷ bytes) ≡ bitXor (left byte n) (remainderFrom 0 bytes)
 unfolding remainderFrom
-gathers sum [] h = sym (xor-zero-r sum)
-gathers sum (byte ∷ bytes) h =
-    gathers (bitXor sum (left byte (length bytes))) bytes (h .1)
-    ∙ xor-assoc sum (left byte (length bytes)) (remainderFrom 0 bytes)
-    ∙ ap (bitXor sum) (sym (apart (byteStep 0 byte) bytes (byte-small 0 byte (omega arith) (h .0)) (h .1)))
+first-apart byte bytes n h k e =
+    apart (byteStep 0 byte) bytes (byte-small 0 byte (omega arith) h) k ∙ ap (λ (m : ℕ). bitXor (left byte m) (remainderFrom 0 bytes)) e
+
+pub four-by-tables :
+    {w x y z : ℕ} (a b c d n : ℕ)
+    → a < 256
+    → b < 256
+    → c < 256
+    → d < 256
+    → w ≡ left a (n + 3)
+    → x ≡ left b (n + 2)
+    → y ≡ left c (n + 1)
+    → z ≡ left d n
+    → bitXor (bitXor (bitXor w x) y) z ≡ remainderFrom 0 (a ∷ b ∷ c ∷ d ∷ zeros n)
+four-by-tables {w} {x} {y} {z} a b c d n ha hb hc hd hw hx hy hz =
+    xor-assoc (bitXor w x) y z
+    ∙ xor-assoc w x (bitXor y z)
+    ∙ ap₂ bitXor hw (ap₂ bitXor hx (ap₂ bitXor hy hz))
+    ∙ sym
+    (first-apart a (b ∷ c ∷ d ∷ zeros n) (n + 3) ha (hb, (hc, (hd, small))) (omega (arith, size))
+    ∙ ap (bitXor (left a (n + 3)))
+    (first-apart b (c ∷ d ∷ zeros n) (n + 2) hb (hc, (hd, small)) (omega (arith, size))
+    ∙ ap (bitXor (left b (n + 2))) (first-apart c (d ∷ zeros n) (n + 1) hc (hd, small) (omega (arith, size)))))
+  where
+    small : Bytes (zeros n)
+    small = zeros-are-bytes n
+
+    size : length (zeros n) ≡ n
+    size = length-replicate {A = ℕ} n 0
 
 -- a remainder's high byte is taken into the byte that follows
 high-taken-in : (r high byte : ℕ) → byteStep (bitXor r (high * 256)) byte ≡ byteStep r (bitXor high byte)
@@ -114,29 +137,35 @@ lists s at i (suc n) h =
     ∙ ap (λ (k : ℕ). s ! (at + i) ∷ part s k n) (sym (add-suc at i))
     ∙ ap (λ (rest : List ℕ). s ! (at + i) ∷ rest) (lists s at (suc i) n (omega arith))
 
-eight-gathered : (s : List ℕ) (at r : ℕ) → at + 8 ≤ length s → ((k : ℕ) → s ! k < 256) → r < 0x10000 → gathered 0 (bitXor (r / 256) (s ! at) ∷ bitXor (r % 256) (s ! (at + 1)) ∷ listed s at 2 6) ≡ remainderFrom r (part s at 8)
-eight-gathered s at r fits small h =
-    gathers 0 (bitXor (r / 256) (s ! at) ∷ bitXor (r % 256) (s ! (at + 1)) ∷ listed s at 2 6)
-    (xor-lt 8 (r / 256) (s ! at) (omega arith) (small at), (xor-lt 8 (r % 256) (s ! (at + 1)) (omega arith) (small (at + 1)), (small (at + 2), (small (at + 3), (small (at + 4), (small (at + 5), (small (at + 6), (small (at + 7), tt))))))))
-    ∙ taken-in r (s ! at) (s ! (at + 1)) (listed s at 2 6) h (small at)
-    ∙ ap (remainderFrom r) (sym whole)
-  where
-    whole : part s at 8 ≡ s ! at ∷ listed s at 1 7
-    whole = ap (λ (k : ℕ). part s k 8) (sym (add-zero at)) ∙ lists s at 0 8 (omega arith) ∙ ap (λ (k : ℕ). s ! k ∷ listed s at 1 7) (add-zero at)
+four-small : (a b c d : ℕ) → a < 256 → b < 256 → c < 256 → d < 256 → remainderFrom 0 (a ∷ b ∷ c ∷ d ∷ []) < 0x10000
+unfolding remainderFrom
+four-small a b c d ha hb hc hd = byte-small _ d (byte-small _ c (byte-small _ b (byte-small 0 a (omega arith) ha) hb) hc) hd
 
 pub eight-by-tables :
-    {a b c d e f g i : ℕ} (s : List ℕ) (at r : ℕ)
+    {x y : ℕ} (s : List ℕ) (at r : ℕ)
     → at + 8 ≤ length s
     → ((k : ℕ) → s ! k < 256)
     → r < 0x10000
-    → a ≡ left (bitXor (r / 256) (s ! at)) 7
-    → b ≡ left (bitXor (r % 256) (s ! (at + 1))) 6
-    → c ≡ left (s ! (at + 2)) 5
-    → d ≡ left (s ! (at + 3)) 4
-    → e ≡ left (s ! (at + 4)) 3
-    → f ≡ left (s ! (at + 5)) 2
-    → g ≡ left (s ! (at + 6)) 1
-    → i ≡ left (s ! (at + 7)) 0
-    → bitXor (bitXor (bitXor (bitXor (bitXor (bitXor (bitXor a b) c) d) e) f) g) i ≡ remainderFrom r (part s at 8)
-eight-by-tables s at r fits small h ha hb hc hd he hf hg hi =
-    ap₂ bitXor (ap₂ bitXor (ap₂ bitXor (ap₂ bitXor (ap₂ bitXor (ap₂ bitXor (ap₂ bitXor ha hb) hc) hd) he) hf) hg) hi ∙ eight-gathered s at r fits small h
+    → x ≡ remainderFrom 0 (bitXor (r / 256) (s ! at) ∷ bitXor (r % 256) (s ! (at + 1)) ∷ s ! (at + 2) ∷ s ! (at + 3) ∷ zeros 4)
+    → y ≡ remainderFrom 0 (s ! (at + 4) ∷ s ! (at + 5) ∷ s ! (at + 6) ∷ s ! (at + 7) ∷ [])
+    → bitXor x y ≡ remainderFrom r (part s at 8)
+unfolding remainderFrom
+eight-by-tables s at r fits small h hx hy =
+    ap₂ bitXor hx hy
+    ∙ sym (apart (remainderFrom 0 (first ∷ second ∷ s ! (at + 2) ∷ s ! (at + 3) ∷ [])) (listed s at 4 4) four (small (at + 4), (small (at + 5), (small (at + 6), (small (at + 7), tt)))))
+    ∙ taken-in r (s ! at) (s ! (at + 1)) (listed s at 2 6) h (small at)
+    ∙ ap (remainderFrom r) (sym whole)
+  where
+    first : ℕ
+    first = bitXor (r / 256) (s ! at)
+
+    second : ℕ
+    second = bitXor (r % 256) (s ! (at + 1))
+
+    four : remainderFrom 0 (first ∷ second ∷ s ! (at + 2) ∷ s ! (at + 3) ∷ []) < 0x10000
+    four =
+        four-small first second (s ! (at + 2)) (s ! (at + 3)) (xor-lt 8 (r / 256) (s ! at) (omega arith) (small at))
+        (xor-lt 8 (r % 256) (s ! (at + 1)) (omega arith) (small (at + 1))) (small (at + 2)) (small (at + 3))
+
+    whole : part s at 8 ≡ s ! at ∷ listed s at 1 7
+    whole = ap (λ (k : ℕ). part s k 8) (sym (add-zero at)) ∙ lists s at 0 8 (omega arith) ∙ ap (λ (k : ℕ). s ! k ∷ listed s at 1 7) (add-zero at)

@@ -21,6 +21,18 @@ fn followed(tables: &[u16; 2048], byte: u8, zeros: usize) -> u16
     tables[zeros * 256 + byte as usize]
 }
 
+// The remainder of four bytes that so many zero bytes follow.
+fn four_followed(tables: &[u16; 2048], a: u8, b: u8, c: u8, d: u8, zeros: usize) -> u16
+    requires { ⌜ Remainders (now tables) ⌝ }
+    requires { ⌜ zeros < 5 ⌝ }
+    ensures { λ r. ⌜ r ≡ remainderFrom 0 (a ∷ b ∷ c ∷ d ∷ replicate zeros 0) ⌝ }
+{
+    followed(tables, a, zeros + 3)
+        ^ followed(tables, b, zeros + 2)
+        ^ followed(tables, c, zeros + 1)
+        ^ followed(tables, d, zeros)
+}
+
 // The remainder after one byte more.
 fn step(tables: &[u16; 2048], remainder: u16, byte: u8) -> u16
     requires { ⌜ Remainders (now tables) ⌝ }
@@ -35,14 +47,10 @@ fn eight_steps(tables: &[u16; 2048], remainder: u16, s: &[u8], at: usize) -> u16
     requires { ⌜ at + 8 ≤ length (now s) ⌝ }
     ensures { λ r. ⌜ r ≡ remainderFrom remainder (part (now (s .entry)) at 8) ⌝ }
 {
-    followed(tables, (remainder / 256) as u8 ^ s[at], 7)
-        ^ followed(tables, (remainder % 256) as u8 ^ s[at + 1], 6)
-        ^ followed(tables, s[at + 2], 5)
-        ^ followed(tables, s[at + 3], 4)
-        ^ followed(tables, s[at + 4], 3)
-        ^ followed(tables, s[at + 5], 2)
-        ^ followed(tables, s[at + 6], 1)
-        ^ followed(tables, s[at + 7], 0)
+    let first = (remainder / 256) as u8 ^ s[at];
+    let second = (remainder % 256) as u8 ^ s[at + 1];
+    four_followed(tables, first, second, s[at + 2], s[at + 3], 4)
+        ^ four_followed(tables, s[at + 4], s[at + 5], s[at + 6], s[at + 7], 0)
 }
 
 // The remainder after all bytes of `s`, which are whole eights.
