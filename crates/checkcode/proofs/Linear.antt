@@ -1,17 +1,16 @@
 -- The remainder's laws. Exclusive or is associative; a bit's step passes through it, and so do a byte's and any number of zero bytes. So
 -- the remainder of a row of bytes is the exclusive or of what each byte leaves where zeros follow it.
 use Prim.Native.Nat.{ℕ, zero, suc, _+_, _*_, _/_, _%_, _<_, _≤_}
-use mathlib.Core.Bool.{Bool, true, false}
-use mathlib.Core.List.{List, [], _∷_}
+use mathlib.Core.List.{List, _∷_}
 use mathlib.Core.Path.{_≡_, refl, sym, ap, ap₂, _∙_}
-use native.Mathlib.Nat.{add-zero, div-add-mod'}
+use native.Mathlib.Nat.{add-zero}
 use native.Mathlib.Decide.{decLt}
 use native.Mathlib.Omega.{arith}
 use lib.Arith.{bin-ind}
-use lib.Bits.{bitXor, differ, xor-step, xor-shr, xor-mod, xor-comm, xor-lt, xor-block, xor-shifted, xor-zero-r}
-use lib.ListN.{length, replicate}
+use lib.Bits.{bitXor, differ, xor-step, xor-shr, xor-mod, xor-comm, xor-lt, xor-block, xor-zero-r}
+use lib.ListN.{replicate}
 use borrow.Author.Tests.{lt-ltb, le-ltb}
-use Rattle.model.specs.Words.{if_then_else_, _<?_}
+use Rattle.model.specs.Words.{if_then_else_}
 use Rattle.model.specs.CheckCode.{bitStep, byteStep, remainderFrom}
 
 digit : (x y z : ℕ) → x < 2 → y < 2 → z < 2 → differ (differ x y) z ≡ differ x (differ y z)
@@ -133,3 +132,13 @@ zeros-linear zero a b ha hb = refl
 zeros-linear (suc n) a b ha hb =
     ap (λ (r : ℕ). remainderFrom r (zeros n)) (byte-linear a b 0 0 ha hb (omega arith) (omega arith))
     ∙ zeros-linear n (byteStep a 0) (byteStep b 0) (byte-small a 0 ha (omega arith)) (byte-small b 0 hb (omega arith))
+
+-- what a byte leaves that so many zero bytes follow
+abbrev pub left : ℕ → ℕ → ℕ
+left byte n = remainderFrom 0 (byte ∷ zeros n)
+
+pub left-linear : (n a b : ℕ) → a < 256 → b < 256 → left (bitXor a b) n ≡ bitXor (left a n) (left b n)
+unfolding remainderFrom
+left-linear n a b ha hb =
+    ap (λ (r : ℕ). remainderFrom r (zeros n)) (byte-linear 0 0 a b (omega arith) (omega arith) ha hb)
+    ∙ zeros-linear n (byteStep 0 a) (byteStep 0 b) (byte-small 0 a (omega arith) ha) (byte-small 0 b (omega arith) hb)

@@ -1,57 +1,91 @@
--- Tables of remainders are known by two tests that are computed at their entries: the first table has what each byte leaves, and each
--- entry of a later table what that of the table before leaves where one zero byte more follows.
-use Prim.Native.Nat.{ℕ, zero, suc, _+_, _*_, _<_}
-use mathlib.Core.Bool.{Bool, true, false}
-use mathlib.Core.List.{List, [], _∷_}
+-- A table of remainders, grown from that of no bits by doubling: a further bit is an exclusive or with what that bit alone leaves. The
+-- eight tables are so computed once more, one after the other, and equal what they are compared with.
+use Prim.Native.Nat.{ℕ, zero, suc, _+_, _-_, _*_, _^_, _<_, _≤_}
+use mathlib.Core.List.{List, [], _∷_, _++_, map}
 use mathlib.Core.Path.{_≡_, refl, sym, ap, _∙_}
+use native.Mathlib.Nat.{one-mul, pow-suc, zero-add, add-zero, add-suc, suc-add}
+use native.Mathlib.Decide.{decLt}
 use native.Mathlib.Omega.{arith}
-use lib.ListN.{length, drop, length-drop}
-use lib.Seq.{getD-drop}
-use borrow.Author.Tests.{eqb-true}
-use Rattle.model.specs.Words.{_and_, _≡?_}
+use lib.Bits.{bitXor, xor-shifted}
+use lib.ListN.{length, length-append, length-map, List·getD-append}
+use lib.Seq.{getD-append-add}
+use Rattle.model.specs.Words.{if_then_else_}
 use Rattle.model.specs.Bytes.{_!_}
-use Rattle.model.specs.CheckCode.{byteStep, remainderFrom}
-use Rattle.model.proofs.Below.{eachBelow, below}
-use Rattle.model.proofs.Tests.{and-left, and-right}
+use Rattle.model.specs.CheckCode.{bitStep, byteStep, remainderFrom}
 use Rattle.checkcode.specs.Remainders.{Remainders}
-use Rattle.checkcode.proofs.Linear.{zeros}
+use Rattle.checkcode.proofs.Linear.{zeros, left, left-linear}
 
-abbrev pub leaves : List ℕ → ℕ → Bool
-leaves tables byte = tables ! byte ≡? byteStep 0 byte
+-- what each number of so many bits leaves that so many zero bytes follow
+unfoldable pub grown : ℕ → ℕ → List ℕ
+grown follow zero = 0 ∷ []
+grown follow (suc bits) = let half = grown follow bits in half ++ map (bitXor (left (2 ^ bits) follow)) half
 
--- each number of a row is what that of another row leaves where a zero byte follows
-unfoldable pub follow : List ℕ → List ℕ → Bool
-follow before [] = true
-follow [] (next ∷ after) = false
-follow (r ∷ before) (next ∷ after) = (next ≡? byteStep r 0) and follow before after
+-- so many tables, the first with so many zero bytes that follow
+unfoldable pub tablesFrom : ℕ → ℕ → List ℕ
+tablesFrom follow zero = []
+tablesFrom follow (suc more) = grown follow 8 ++ tablesFrom (suc follow) more
 
-follows : (before after : List ℕ) → follow before after ≡ true → (k : ℕ) → k < length after → after ! k ≡ byteStep (before ! k) 0
-unfolding follow
-follows before [] h k l = absurd (omega arith)
-follows [] (next ∷ after) h k l = let z : _≡_ {A = ℕ} 0 1 = cc in absurd (omega arith)
-follows (r ∷ before) (next ∷ after) h zero l = eqb-true next (byteStep r 0) (and-left _ _ h)
-follows (r ∷ before) (next ∷ after) h (suc k) l = follows before after (and-right _ _ h) k (omega arith)
+nothing-left : (n : ℕ) → remainderFrom 0 (zeros n) ≡ 0
+unfolding remainderFrom byteStep bitStep if_then_else_
+nothing-left zero = refl
+nothing-left (suc n) = nothing-left n
 
-last-zero : (n r : ℕ) → remainderFrom (byteStep r 0) (zeros n) ≡ byteStep (remainderFrom r (zeros n)) 0
-unfolding remainderFrom
-last-zero zero r = refl
-last-zero (suc n) r = last-zero n (byteStep r 0)
+mapped-at : (f : ℕ → ℕ) (l : List ℕ) (k : ℕ) → k < length l → map f l ! k ≡ f (l ! k)
+mapped-at f [] k h = absurd (omega arith)
+mapped-at f (x ∷ l) zero h = refl
+mapped-at f (x ∷ l) (suc k) h = mapped-at f l k (omega arith)
 
-pub remainders :
-    (tables : List ℕ)
-    → length tables ≡ 2048
-    → eachBelow (leaves tables) 256 ≡ true
-    → follow tables (drop 256 tables) ≡ true
-    → Remainders tables
-unfolding Remainders remainderFrom
-remainders tables size first later zero byte t b =
-    ap (_!_ tables) (omega arith) ∙ eqb-true (tables ! byte) (byteStep 0 byte) (below (leaves tables) 256 first byte b)
-remainders tables size first later (suc table) byte t b =
-    ap (_!_ tables) (omega arith)
-    ∙ sym (getD-drop 256 tables entry 0)
-    ∙ follows tables (drop 256 tables) later entry (omega (arith, length-drop 256 tables))
-    ∙ ap (λ (r : ℕ). byteStep r 0) (remainders tables size first later table byte (omega arith) b)
-    ∙ sym (last-zero table (byteStep 0 byte))
+grown-length : (follow bits : ℕ) → length (grown follow bits) ≡ 2 ^ bits
+unfolding grown
+grown-length follow zero = refl
+grown-length follow (suc bits) =
+    length-append (grown follow bits) _ ∙ omega (arith, length-map (grown follow bits) (bitXor (left (2 ^ bits) follow)), grown-length follow bits, pow-suc 2 bits)
+
+grown-at : (follow bits byte : ℕ) → 2 ^ bits ≤ 256 → byte < 2 ^ bits → grown follow bits ! byte ≡ left byte follow
+unfolding grown remainderFrom byteStep bitStep if_then_else_
+grown-at follow zero zero h k = sym (nothing-left follow)
+grown-at follow zero (suc byte) h k = absurd (omega arith)
+grown-at follow (suc bits) byte h k =
+    elim (decLt byte (2 ^ bits)) [
+      | yes p ↦ List·getD-append half _ 0 byte (omega (arith, size)) ∙ grown-at follow bits byte (omega (arith, twice)) p
+      | no q ↦
+          let d : ℕ = byte - 2 ^ bits in
+          let e : byte ≡ 2 ^ bits + d = omega arith in
+          ap (_!_ (grown follow (suc bits))) (e ∙ ap (λ (n : ℕ). n + d) (sym size))
+          ∙ getD-append-add half _ d 0
+          ∙ mapped-at (bitXor (left (2 ^ bits) follow)) half d (omega (arith, size, twice))
+          ∙ ap (bitXor (left (2 ^ bits) follow)) (grown-at follow bits d (omega (arith, twice)) (omega (arith, twice)))
+          ∙ sym (left-linear follow (2 ^ bits) d (omega (arith, twice)) (omega (arith, twice)))
+          ∙ ap (λ (n : ℕ). left n follow) (joined d (omega (arith, twice)) ∙ sym e)
+    ]
   where
-    entry : ℕ
-    entry = table * 256 + byte
+    half : List ℕ
+    half = grown follow bits
+
+    size : length half ≡ 2 ^ bits
+    size = grown-length follow bits
+
+    twice : 2 ^ suc bits ≡ 2 ^ bits * 2
+    twice = pow-suc 2 bits
+
+    joined : (d : ℕ) → d < 2 ^ bits → bitXor (2 ^ bits) d ≡ 2 ^ bits + d
+    joined d l = ap (λ (n : ℕ). bitXor n d) (sym (one-mul (2 ^ bits))) ∙ xor-shifted 1 bits d l ∙ ap (λ (n : ℕ). n + d) (one-mul (2 ^ bits))
+
+tables-at : (follow more table byte : ℕ) → table < more → byte < 256 → tablesFrom follow more ! (table * 256 + byte) ≡ left byte (follow + table)
+unfolding tablesFrom
+tables-at follow zero table byte t b = absurd (omega arith)
+tables-at follow (suc more) zero byte t b =
+    ap (_!_ (tablesFrom follow (suc more))) (omega arith)
+    ∙ List·getD-append (grown follow 8) _ 0 byte (omega (arith, grown-length follow 8))
+    ∙ grown-at follow 8 byte (omega arith) b
+    ∙ ap (left byte) (sym (add-zero follow))
+tables-at follow (suc more) (suc table) byte t b =
+    ap (_!_ (tablesFrom follow (suc more))) (omega (arith, grown-length follow 8))
+    ∙ getD-append-add (grown follow 8) _ (table * 256 + byte) 0
+    ∙ tables-at (suc follow) more table byte (omega arith) b
+    ∙ ap (left byte) (suc-add follow table ∙ sym (add-suc follow table))
+
+pub remainders : (tables : List ℕ) → tables ≡ tablesFrom 0 8 → Remainders tables
+unfolding Remainders
+remainders tables e table byte t b =
+    ap (λ (l : List ℕ). l ! (table * 256 + byte)) e ∙ tables-at 0 8 table byte t b ∙ ap (left byte) (zero-add table)

@@ -5,15 +5,11 @@ use mathlib.Core.Path.{_≡_, refl, sym, ap, ap₂, _∙_}
 use native.Mathlib.Nat.{add-zero, add-suc, div-add-mod'}
 use native.Mathlib.Omega.{arith}
 use lib.Bits.{bitXor, xor-lt, xor-block, xor-shifted, xor-zero-r}
-use lib.ListN.{length, take, drop, length-replicate}
+use lib.ListN.{length, take, length-replicate}
 use lib.Seq.{drop-cons}
 use Rattle.model.specs.Bytes.{_!_, part}
 use Rattle.model.specs.CheckCode.{bitStep, byteStep, remainderFrom}
-use Rattle.checkcode.proofs.Linear.{xor-assoc, moved-up, low-bit-step, steps, steps-linear, byte-linear, byte-small, zeros, zeros-linear}
-
--- what a byte leaves that so many zero bytes follow
-abbrev left : ℕ → ℕ → ℕ
-left byte n = remainderFrom 0 (byte ∷ zeros n)
+use Rattle.checkcode.proofs.Linear.{xor-assoc, moved-up, low-bit-step, steps, steps-linear, byte-linear, byte-small, zeros, zeros-linear, left}
 
 -- A BYTE
 

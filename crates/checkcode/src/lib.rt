@@ -54,12 +54,12 @@ fn eight_steps(tables: &[u16; 2048], remainder: u16, s: &[u8], at: usize) -> u16
 }
 
 // The remainder after all bytes of `s`, which are whole eights.
-fn over_eights(tables: &[u16; 2048], first: u16, s: &[u8]) -> u16
+fn over_eights(tables: &[u16; 2048], start: u16, s: &[u8]) -> u16
     requires { ⌜ Remainders (now tables) ⌝ }
     requires { ⌜ length (now s) % 8 ≡ 0 ⌝ }
-    ensures { λ r. ⌜ r ≡ remainderFrom first (now (s .entry)) ⌝ }
+    ensures { λ r. ⌜ r ≡ remainderFrom start (now (s .entry)) ⌝ }
 {
-    let mut remainder = first;
+    let mut remainder = start;
     let mut at = 0;
     while at < s.len() {
         remainder = eight_steps(tables, remainder, s, at);
@@ -69,11 +69,11 @@ fn over_eights(tables: &[u16; 2048], first: u16, s: &[u8]) -> u16
 }
 
 // The remainder after all bytes of `s`.
-fn over_bytes(tables: &[u16; 2048], first: u16, s: &[u8]) -> u16
+fn over_bytes(tables: &[u16; 2048], start: u16, s: &[u8]) -> u16
     requires { ⌜ Remainders (now tables) ⌝ }
-    ensures { λ r. ⌜ r ≡ remainderFrom first (now (s .entry)) ⌝ }
+    ensures { λ r. ⌜ r ≡ remainderFrom start (now (s .entry)) ⌝ }
 {
-    let mut remainder = first;
+    let mut remainder = start;
     let mut at = 0;
     while at < s.len() {
         remainder = step(tables, remainder, s[at]);

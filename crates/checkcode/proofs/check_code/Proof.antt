@@ -1,17 +1,16 @@
--- `check_code` meets its contract: the tables' two tests are computed here.
+-- `check_code` meets its contract: the tables are computed once more here, and are the same.
 use Prim.Native.Nat.{ℕ, _-_}
 use mathlib.Core.Path.{refl, ap}
 use borrow.Author.Needs.{needs}
-use Rattle.model.specs.Words.{if_then_else_, _and_}
-use Rattle.model.specs.CheckCode.{bitStep, byteStep, checkCode}
-use Rattle.model.proofs.Below.{eachBelow}
-use Rattle.checkcode.proofs.Remainders.{follow, remainders}
+use Rattle.model.specs.Words.{if_then_else_}
+use Rattle.model.specs.CheckCode.{bitStep, byteStep, remainderFrom, checkCode}
+use Rattle.checkcode.proofs.Remainders.{grown, tablesFrom, remainders}
 use Rattle.checkcode.proofs.check_code.Statement.{statement}
 use Rattle.checkcode.proofs.check_code.Tie as tie
 
 over-all-requires : tie.Need-over-all-requires
-unfolding eachBelow follow _and_ byteStep bitStep if_then_else_
-over-all-requires c κs = remainders _ refl refl refl
+unfolding grown tablesFrom remainderFrom byteStep bitStep if_then_else_
+over-all-requires c κs = remainders _ refl
 
 sub-result : tie.Need-sub-result
 sub-result c = search needs

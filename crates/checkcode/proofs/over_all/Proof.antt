@@ -1,8 +1,8 @@
 -- `over_all` meets its contract: the remainder of the whole eights is that from which the rest goes on.
 use Prim.Native.Nat.{ℕ, _-_, _*_, _/_}
-use mathlib.Core.Path.{_≡_, ap, _∙_, sym}
+use mathlib.Core.Path.{ap, _∙_, sym}
 use native.Mathlib.Omega.{arith}
-use lib.ListN.{length, take, drop, length-drop}
+use lib.ListN.{length, drop, length-drop}
 use lib.Seq.{length-take-le, take-all}
 use borrow.Author.Needs.{needs}
 use Rattle.model.specs.CheckCode.{remainderFrom}

@@ -11,11 +11,11 @@ use Rattle.checkcode.proofs.over_eights.Statement.{statement}
 use Rattle.checkcode.proofs.over_eights.Tie as tie
 
 abbrev Inv-loop : tie.InvT-loop
-Inv-loop tables first s remainder₀ at₀ remainder at =
-    (at ≤ length s) × (at % 8 ≡ 0) × (remainderFrom remainder (drop at s) ≡ remainderFrom first s)
+Inv-loop tables start s remainder₀ at₀ remainder at =
+    (at ≤ length s) × (at % 8 ≡ 0) × (remainderFrom remainder (drop at s) ≡ remainderFrom start s)
 
 abbrev μ-loop : tie.MeasureT-loop
-μ-loop tables first s remainder₀ at₀ remainder at = length s - at
+μ-loop tables start s remainder₀ at₀ remainder at = length s - at
 
 loop-holds : tie.Need-loop-holds Inv-loop μ-loop
 loop-holds c = (omega arith, omega arith, refl)
