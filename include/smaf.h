@@ -1,4 +1,5 @@
-/* The C library of Qishradul: reads SMAF files (.mmf), plays and flattens their tracks, and gives the pitch of a note.
+/* The C library of Qishradul: reads SMAF files (.mmf), plays and flattens their tracks, and gives the pitch of a note and the
+ * check code of any bytes.
  *
  * `rt staticlib smaf_c` writes target/staticlib/libsmaf_c.a, for programs on x86-64 Linux. It needs nothing beside the C library's
  * memcpy and memset. The functions keep nothing between calls and reserve no memory.
@@ -6,8 +7,9 @@
  * ARGUMENTS. Lent memory is a pointer and, right behind it, a length in elements. `buffer` holds a file in its first n bytes; what it
  * holds past n alters nothing. Any content, any n, any row number and any length gets an answer.
  *
- * ANSWERS. Each function returns a struct. Where its `refusal` is 0 the call was accepted: `place` is 0, and the fields after it hold what
- * was asked. Else `refusal` is a number of the table below, `place` is where in the file that is, and the fields after it are 0.
+ * ANSWERS. Each function but smaf_check_code returns a struct. Where its `refusal` is 0 the call was accepted: `place` is 0, and the
+ * fields after it hold what was asked. Else `refusal` is a number of the table below, `place` is where in the file that is, and the fields
+ * after it are 0.
  *
  * MEMORY. `buffer` is only read. An accepted call writes the rows or bytes that it reports, from the head of each output on; the rest of
  * each output stays as it was. A refused call writes nothing.
@@ -115,6 +117,10 @@ struct smaf_pitch_reply {
     int32_t semitones; /* from the A of 440 Hz, -80 to 63 */
 };
 struct smaf_pitch_reply smaf_pitch(uint8_t byte, uint8_t shift);
+
+/* CHECK CODE: of any bytes, any number of them. A file ends with the check code of all bytes before it, its high byte first: what a read
+ * computes and compares. That of no bytes is 0. It refuses nothing. */
+uint16_t smaf_check_code(const uint8_t *bytes, size_t bytes_length);
 
 #ifdef __cplusplus
 }

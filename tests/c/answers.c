@@ -54,6 +54,8 @@ static void answer_read(struct test_case asked)
     put_refusal(reply.refusal == 0 ? reply.place == 0 : reply.count == 0 && reply.code == 0 && !reply.matches, reply.refusal, reply.place);
     if (reply.refusal == 0)
         printf("rows %zu code %04x verdict %s\n", reply.count, (unsigned)reply.code, reply.matches ? "yes" : "no");
+    if (reply.refusal == 0 && smaf_check_code(buffer, asked.stated - 2) != reply.code)
+        puts("another check code");
     for (size_t at = 0; at < 4 * reply.count && at < numbers; at += 4)
         printf("%08" PRIx32 " %" PRIu32 " %" PRIu32 " %" PRIu32 "\n", rows[at], rows[at + 1], rows[at + 2], rows[at + 3]);
     put_kept(is_kept(rows, 4 * reply.count * sizeof rows[0], numbers * sizeof rows[0]));

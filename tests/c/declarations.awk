@@ -32,7 +32,7 @@ function declared(text,    name, result, list, parts, count, i) {
   sub(/,? *\) ->.*/, "", text)
   count = split(text, parts, /, */)
   for (i = 1; i <= count; i++) list = list (i > 1 ? ", " : "") parameter(parts[i])
-  return reply(result) " " name "(" list ");"
+  return (result in c ? c[result] : reply(result)) " " name "(" list ");"
 }
 
 /^pub struct / { fields = reply($3) " {"; next }

@@ -1,2 +1,4 @@
 pub mod Linear
+pub mod Parts
 pub mod Remainders
+pub mod Slices

@@ -1,0 +1,56 @@
+-- `over_all` meets its contract: the remainder of the whole eights is that from which the rest goes on.
+use Prim.Native.Nat.{ℕ, _-_, _*_, _/_}
+use mathlib.Core.Path.{ap, _∙_, sym}
+use native.Mathlib.Omega.{arith}
+use lib.ListN.{length, drop, length-drop}
+use lib.Seq.{length-take-le, take-all}
+use borrow.Author.Needs.{needs}
+use Rattle.model.specs.CheckCode.{remainderFrom}
+use Rattle.checkcode.proofs.Parts.{in-two-parts}
+use Rattle.checkcode.proofs.over_all.Statement.{statement}
+use Rattle.checkcode.proofs.over_all.Tie as tie
+
+mul-whole : tie.Need-mul-whole
+mul-whole c = search needs
+
+slice-aggregate-over-eights : tie.Need-slice-aggregate-over-eights
+slice-aggregate-over-eights c = sym (length-take-le _ _ (omega arith))
+
+over-eights-requires : tie.Need-over-eights-requires
+over-eights-requires c κs =
+    let s = c .before .before .args .s .now in
+    (search needs, omega (arith, length-take-le (length s / 8 * 8) s (omega arith)))
+
+sub-over-bytes : tie.Need-sub-over-bytes
+sub-over-bytes c = search needs
+
+part-over-bytes-start : tie.Need-part-over-bytes-start
+part-over-bytes-start c = search needs
+
+part-over-bytes-end : tie.Need-part-over-bytes-end
+part-over-bytes-end c = search needs
+
+over-bytes-requires : tie.Need-over-bytes-requires
+over-bytes-requires c κs = search needs
+
+returns : tie.Need-returns
+returns c =
+    let s = c .before .before .before .before .before .args .s .now in
+    let whole = length s / 8 * 8 in
+    c .over-bytes .ensures
+    ∙ ap (remainderFrom (c .before .before .over-eights .result)) (take-all (length s - whole) (drop whole s) (omega (arith, length-drop whole s)))
+    ∙ ap (λ (r : ℕ). remainderFrom r (drop whole s)) (c .before .before .over-eights .ensures)
+    ∙ in-two-parts 0xFFFF s whole
+
+pub over-all-spec : {M : Type 1} → statement M
+over-all-spec =
+    tie.close
+    (tie.spec
+    mul-whole
+    slice-aggregate-over-eights
+    over-eights-requires
+    sub-over-bytes
+    part-over-bytes-start
+    part-over-bytes-end
+    over-bytes-requires
+    returns)
