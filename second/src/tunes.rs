@@ -65,6 +65,17 @@ impl Body {
         }
     }
 
+    /// Notes of several voices: start, channel, key and length of each.
+    fn together(&mut self, mut notes: Vec<(u32, u8, u8, u32)>) {
+        notes.sort_by_key(|note| note.0);
+        let mut now = 0;
+        for (start, channel, key, length) in notes {
+            self.wait = start - now;
+            self.note(channel, key, length);
+            now = start;
+        }
+    }
+
     fn rest(&mut self, steps: u32) {
         self.wait += steps;
     }
@@ -145,17 +156,39 @@ fn second_line() -> Vec<u8> {
     file(&[score(STREAM, TEN, &[(b"MspI", seek), (b"Mtsq", body.ended())])])
 }
 
+const EIGHTH: u32 = 24;
+
+/// A French round, line by line.
+const JACQUES: [&[(u8, u32)]; 4] = [
+    &[(60, QUARTER), (62, QUARTER), (64, QUARTER), (60, QUARTER)],
+    &[(64, QUARTER), (65, QUARTER), (67, HALF)],
+    &[(67, EIGHTH), (69, EIGHTH), (67, EIGHTH), (65, EIGHTH), (64, QUARTER), (60, QUARTER)],
+    &[(60, QUARTER), (55, QUARTER), (60, HALF)],
+];
+
+/// Four voices, each two bars behind the one before, high and low in turn.
+fn round_of_four() -> Vec<u8> {
+    let mut body = Body::default();
+    let mut notes = Vec::new();
+    for voice in 0..4u8 {
+        body.control(voice, 0, 8 * voice);
+        body.control(voice, 2, [0x00, 0x81, 0x01, 0x82][usize::from(voice)]);
+        let mut start = 8 * QUARTER * u32::from(voice);
+        for line in JACQUES.iter().flat_map(|line| [line, line]) {
+            for &(key, length) in line.iter() {
+                notes.push((start, voice, key, length));
+                start += length;
+            }
+        }
+    }
+    body.together(notes);
+    stream(body)
+}
+
 fn frere_jacques() -> Vec<u8> {
-    let (eighth, quarter) = (24, QUARTER);
-    let lines: [&[(u8, u32)]; 4] = [
-        &[(60, quarter), (62, quarter), (64, quarter), (60, quarter)],
-        &[(64, quarter), (65, quarter), (67, HALF)],
-        &[(67, eighth), (69, eighth), (67, eighth), (65, eighth), (64, quarter), (60, quarter)],
-        &[(60, quarter), (55, quarter), (60, HALF)],
-    ];
     let mut body = Body::default();
     let mut entries = Vec::new();
-    for (letter, line) in (b'a'..).zip(lines) {
+    for (letter, line) in (b'a'..).zip(JACQUES) {
         let from = body.pause();
         body.melody(0, line);
         entries.push(phrase(letter, from, body.pause()));
@@ -262,11 +295,12 @@ fn gate_of_zero() -> Vec<u8> {
 }
 
 pub fn all() -> Vec<Tune> {
-    let tunes: [(&'static str, Vec<u8>); 15] = [
+    let tunes: [(&'static str, Vec<u8>); 16] = [
         ("worked", worked_tune()),
         ("ode_to_joy", ode_to_joy()),
         ("second_line", second_line()),
         ("frere_jacques", frere_jacques()),
+        ("round_of_four", round_of_four()),
         ("scale_on_four_channels", scale_on_four_channels()),
         ("octave_shifts", octave_shifts()),
         ("short_forms", short_forms()),
