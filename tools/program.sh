@@ -18,8 +18,8 @@ take_file() { # take_file WORD..: one file that can be read
 
 build_program() {
   local log
-  [ -x "$built" ] && [ -z "$(find "$home/crates" "$home/crates.txt" -newer "$built" -type f -print -quit)" ] && return
   command -v rt >/dev/null || refuse "there is no rt: install the Rattle kit and put its bin on PATH" 3
+  [ -x "$built" ] && [ -z "$(find "$home/crates" "$home/crates.txt" -newer "$built" -type f -print -quit)" ] && return
   echo "$command: proving and building the program $program; from nothing that takes about five minutes" >&2
   log=$(mktemp) || refuse "no room for a log" 3
   (cd "$home" && rt check "$program") 2>&1 | tee "$log" | sed -n "s/^rt: \([a-z_]* proved\)/$command: \1/p" >&2
@@ -28,13 +28,6 @@ build_program() {
   touch "$built"
 }
 
-run_program() { # on standard input, under the kit's emulator where the machine is no x86-64
-  case $(uname -m) in
-    x86_64) "$built" ;;
-    *)
-      local kit
-      kit=$(dirname "$(dirname "$(rt doc)")")
-      "$kit/on/$(uname -m)/toolchain/bin/qemu-x86_64" "$kit/toolchain/lib/ld-linux-x86-64.so.2" --library-path "$kit/toolchain/lib" "$built"
-      ;;
-  esac
+run_program() { # on standard input
+  (cd "$home" && . tools/kit.sh && kit_run "$built")
 }

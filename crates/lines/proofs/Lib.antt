@@ -8,3 +8,4 @@ pub mod Tops
 pub mod Firsts
 pub mod Heard
 pub mod Listings
+pub mod Theorems

@@ -1,7 +1,7 @@
 // The probe: takes a row of cases on standard input and writes the answer to each, as text, on standard output, with a line that says
 // whether lent memory outside the answer was kept. A case is one byte for the operation, four numbers of four bytes (stated length, row
-// number, room, length of the buffer), and the buffer. It answers `r` (read), `p` (play), `f` (flatten), `l` (listing) and `t` (pitch). A case that is cut, too large
-// or of an unknown operation ends the run with the line `bad case`.
+// number, room, length of the buffer), and the buffer. It answers `r` (read), `p` (play), `f` (flatten), `l` (listing) and `t` (pitch). A case that is
+// cut, too large or of an unknown operation ends the run with the line `bad case`.
 mod listings;
 mod messages;
 mod plain_forms;
