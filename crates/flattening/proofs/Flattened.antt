@@ -21,14 +21,13 @@ use Rattle.model.specs.declared.Shape.{Shape}
 use Rattle.model.specs.declared.FlattenAnswer.{FlattenAnswer}
 use Rattle.model.specs.declared.FlattenAnswer.the-variants as flatten
 use Rattle.model.proofs.Tests.{by-test}
-use Rattle.sections.specs.Spans.{Items, spanRows}
-use Rattle.sections.proofs.Steps.{Rising}
-use Rattle.playing.specs.Performing.{spanAt, AllShort}
+use Rattle.sections.specs.Spans.{Items, spanRows, Rising}
+use Rattle.playing.specs.Performing.{spanAt, AllShort, AllRise}
 use Rattle.playing.proofs.Together.{short-enough}
 use Rattle.flattening.specs.declared.OrderSize.{OrderSize}
 use Rattle.flattening.specs.declared.OrderSize.the-variants.{Bytes, Over}
 use Rattle.flattening.specs.Parts.{told, shapeOf, spanShape}
-use Rattle.flattening.specs.Orders.{orderBytes, AllRise, shapeAt, sizeAfter, nothing, sizeAnswer, Slight, AllSlight, AllShaped, AllLight, fitted}
+use Rattle.flattening.specs.Orders.{orderBytes, shapeAt, sizeAfter, nothing, sizeAnswer, Slight, AllSlight, AllShaped, AllLight, fitted}
 use Rattle.flattening.proofs.Sizing.{order-sized}
 
 -- what a shape says lies within its span

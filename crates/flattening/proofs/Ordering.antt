@@ -21,9 +21,9 @@ use Rattle.model.specs.declared.Span.{Span}
 use Rattle.model.proofs.Stores.{sets-append}
 use Rattle.sections.specs.Spans.{Items, spanRows, Playable}
 use Rattle.plain.proofs.PlainItems.{bytes-append}
-use Rattle.playing.specs.Performing.{spanAt, AllPlayable, lastsTogether, rowsTogether}
+use Rattle.playing.specs.Performing.{spanAt, AllPlayable, lastsTogether, rowsTogether, AllRise}
 use Rattle.flattening.specs.Parts.{told, partBytes, partLast}
-use Rattle.flattening.specs.Orders.{orderBytes, AllRise}
+use Rattle.flattening.specs.Orders.{orderBytes}
 use Rattle.flattening.proofs.Joining.{plain-bytes}
 use Rattle.flattening.proofs.Shapes.{last-within}
 

@@ -15,8 +15,7 @@ use Rattle.model.specs.Content.{Content, contentOf, contentBytes, handyPhone}
 use Rattle.model.specs.declared.Event.{Event}
 use Rattle.model.specs.declared.Outline.{Outline}
 use Rattle.model.specs.declared.Span.{Span}
-use Rattle.sections.specs.Spans.{Items, messagesAfter, itemsFrom, counted, spanRows}
-use Rattle.sections.proofs.Steps.{Rising}
+use Rattle.sections.specs.Spans.{Items, messagesAfter, itemsFrom, counted, spanRows, Rising}
 use Rattle.flattening.specs.Parts.{plainPart, lastStep, told, partBytes, partLast, gapSize, shapeOf, spanShape, silence, joined, shaped}
 use Rattle.flattening.proofs.Joining.{first-length}
 

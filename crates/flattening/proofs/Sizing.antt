@@ -20,12 +20,12 @@ use Rattle.model.specs.declared.Span.{Span}
 use Rattle.model.specs.declared.Shape.{Shape}
 use Rattle.model.proofs.Tests.{by-test, if-true, if-false}
 use Rattle.sections.specs.Spans.{Items, spanRows}
-use Rattle.playing.specs.Performing.{spanAt}
+use Rattle.playing.specs.Performing.{spanAt, AllRise}
 use Rattle.flattening.specs.declared.Size.{Size}
 use Rattle.flattening.specs.declared.OrderSize.{OrderSize}
 use Rattle.flattening.specs.declared.OrderSize.the-variants.{Bytes, Over}
 use Rattle.flattening.specs.Parts.{gapSize, spanShape, partBytes, partLast, told, plainPart, lastStep, shapeOf}
-use Rattle.flattening.specs.Orders.{orderBytes, AllRise, shapeAt, addShape, wholeSize, sizeAfter, nothing, sizeAnswer, Slight, AllSlight, AllShaped}
+use Rattle.flattening.specs.Orders.{orderBytes, shapeAt, addShape, wholeSize, sizeAfter, nothing, sizeAnswer, Slight, AllSlight, AllShaped}
 use Rattle.flattening.proofs.Shapes.{span-size, span-tail, span-silent, last-within}
 use Rattle.flattening.proofs.Ordering.{order-first, order-none}
 

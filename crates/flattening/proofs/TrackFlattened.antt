@@ -24,14 +24,13 @@ use Rattle.model.specs.declared.Span.{Span}
 use Rattle.model.specs.declared.Plan.{Plan}
 use Rattle.model.specs.declared.FlattenAnswer.{FlattenAnswer}
 use Rattle.model.specs.declared.FlattenAnswer.the-variants as flatten
-use Rattle.sections.specs.Spans.{Items, onsets, spanOf, spanRows, Playable, Small}
-use Rattle.sections.proofs.Steps.{Rising}
+use Rattle.sections.specs.Spans.{Items, onsets, spanOf, spanRows, Playable, Small, Rising}
 use Rattle.sections.proofs.Stretches.{span-sounds}
-use Rattle.sections.proofs.Tunes.{Rises, stream-section-rises, phrase-section-rises}
-use Rattle.playing.specs.Performing.{entriesSaid, Ready, spanAt, letterSection, letterSpan, AllPlayable, AllShort, lastsTogether, rowsTogether, Planned}
-use Rattle.playing.proofs.Together.{letters-playable, letters-last, letters-sound}
+use Rattle.sections.proofs.Tunes.{stream-section-rises}
+use Rattle.playing.specs.Performing.{entriesSaid, Ready, spanAt, letterSection, letterSpan, AllPlayable, AllShort, lastsTogether, rowsTogether, Planned, AllRise}
+use Rattle.playing.proofs.Together.{letters-playable, letters-last, letters-sound, span-rises, letters-rise}
 use Rattle.flattening.specs.Parts.{told}
-use Rattle.flattening.specs.Orders.{orderBytes, AllRise, fitted}
+use Rattle.flattening.specs.Orders.{orderBytes, fitted}
 use Rattle.flattening.specs.Flattening.{sectionsPlain, flattened, bodiesFlattened}
 use Rattle.flattening.proofs.Flattened.{refused-answer, refused-room}
 
@@ -43,15 +42,6 @@ order-plain : (body : List ℕ) (items : Items) (spans : List Span) (letters : L
 unfolding orderBytes told sectionsPlain plainForm plainItems retold tuneOf
 order-plain body items spans letters sections plays lasts =
     ap₂ (λ (rows : List (At Event)) (end : ℕ). bytesOf handyPhone (plainAfter handyPhone 0 (told body rows) end)) plays (zero-add _ ∙ lasts)
-
--- the span of a section that rises, rises
-span-rises : (voice : Voice) (body : List ℕ) → isFine (bodyOf voice body) ≡ true → (section : Section) → Rises (itemsOf voice body) section
-    → (span : Span) → span ≡ spanOf (itemsOf voice body) (length body) section
-    → (before : ℕ) → Rising before (before + span .lasts) (spanRows (itemsOf voice body) span before)
-unfolding spanOf
-span-rises voice body reads section rises span is before =
-    subst (λ (one : Span). Rising before (before + one .lasts) (spanRows (itemsOf voice body) one before)) (sym is)
-    (subst (Rising before (before + section .lasts)) (sym (span-sounds voice body reads section before)) (rises before))
 
 module _ (voice : Voice) (header : ℕ) (body seek room : List ℕ) where
   abbrev items : Items
@@ -79,10 +69,7 @@ module _ (voice : Voice) (header : ℕ) (body seek room : List ℕ) where
     phrases-short = planned .short
 
     pub phrases-rise : AllRise (itemsOf voice body) (plan .spans) letters
-    unfolding letterSpan letterSection
-    phrases-rise i h =
-        span-rises voice body (ready .reads) (letterSection items (entriesSaid true seek) (letters ! i))
-        (phrase-section-rises items (phraseOf (letters ! i) (entriesSaid true seek))) (spanAt (plan .spans) (letters ! i)) (planned .spans i h)
+    phrases-rise = letters-rise voice body (ready .reads) (entriesSaid true seek) (plan .spans) letters (planned .spans)
 
     module _ (order : orderOf true (itemsOf voice body) (entriesSaid true seek) ≡ some (map (letterSection (itemsOf voice body) (entriesSaid true seek)) letters)) where
       phrases-are : fitted header (length room) (orderBytes body items (plan .spans) 0 0 letters) ≡ bodiesFlattened voice true header (length room) body seek

@@ -10,8 +10,7 @@ use Rattle.model.specs.Plain.{bytesOf, rest, plainAfter}
 use Rattle.model.specs.Content.{handyPhone}
 use Rattle.model.specs.declared.Span.{Span}
 use Rattle.model.specs.declared.Shape.{Shape}
-use Rattle.sections.specs.Spans.{Items, spanRows}
-use Rattle.sections.proofs.Steps.{Rising}
+use Rattle.sections.specs.Spans.{Items, spanRows, Rising}
 use Rattle.playing.specs.Performing.{spanAt, lastsTogether, rowsTogether}
 use Rattle.flattening.specs.declared.Size.{Size}
 use Rattle.flattening.specs.declared.OrderSize.{OrderSize}
@@ -22,12 +21,6 @@ use Rattle.flattening.specs.Parts.{told, gapSize, spanShape}
 unfoldable pub orderBytes : List ℕ → Items → List Span → ℕ → ℕ → List ℕ → List ℕ
 orderBytes body items spans past before letters =
     bytesOf handyPhone (plainAfter handyPhone past (told body (rowsTogether items spans before letters)) (before + lastsTogether spans letters))
-
--- the steps of each letter's span never fall, and none is past where it ends
-abbrev pub AllRise : Items → List Span → List ℕ → Type 0
-AllRise items spans letters =
-    (i : ℕ) → i < length letters → (before : ℕ)
-    → Rising before (before + spanAt spans (letters ! i) .lasts) (spanRows items (spanAt spans (letters ! i)) before)
 
 -- THE SIZE of a plain form, from the shapes of its spans
 

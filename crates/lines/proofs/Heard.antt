@@ -8,6 +8,7 @@ use lib.ListN.{length, drop, length-append, length-map}
 use lib.Seq.{sets}
 use native.Mathlib.Omega.{arith}
 use borrow.Author.Tests.{ltb-false}
+use Rattle.sections.specs.Spans.{Rising}
 use Rattle.model.specs.Words.{if_then_else_, _<?_, _≤?_, Checked, Checked.fine, Checked.refused}
 use Rattle.model.specs.Bytes.{_!_}
 use Rattle.model.specs.Play.{At, Tune, tuneOf}
@@ -24,7 +25,6 @@ use Rattle.model.proofs.Tests.{by-test, if-true, if-false}
 use Rattle.inverse.proofs.WordBack.{word-back}
 use Rattle.items.proofs.Standing.{body-stands}
 use Rattle.sections.proofs.Small.{lasting-short}
-use Rattle.sections.proofs.Steps.{Rising}
 use Rattle.sections.proofs.Throughout.{OfMessages, of-played, body-in-word}
 use Rattle.sections.proofs.Lengths.{tune-short}
 use Rattle.reading.proofs.OneTop.{bind-fine, then-fine}

@@ -16,9 +16,8 @@ use Rattle.model.specs.declared.Event.{Event}
 use Rattle.model.proofs.Tests.{and-right}
 use Rattle.inverse.proofs.Sequence.{AllFit}
 use Rattle.inverse.proofs.ReadWrites.{body-fits}
-use Rattle.sections.specs.Spans.{Items}
+use Rattle.sections.specs.Spans.{Items, Rising}
 use Rattle.sections.proofs.Throughout.{OfItem, OfItems, OfMessages, of-played}
-use Rattle.sections.proofs.Steps.{Rising}
 use Rattle.sections.proofs.Tunes.{tune-rises}
 use Rattle.plain.proofs.PlainPlays.{Rises, AllSaid}
 use Rattle.plain.proofs.PlainItems.{Writable}

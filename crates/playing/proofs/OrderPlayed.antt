@@ -18,9 +18,9 @@ use Rattle.model.specs.declared.Event.{Event}
 use Rattle.model.specs.declared.Plan.{Plan}
 use Rattle.model.specs.declared.PlayAnswer.the-variants as play
 use Rattle.sections.specs.Spans.{Items, stepsOf, wordsOf}
-use Rattle.playing.specs.Performing.{entriesSaid, Ready, letterSection, AllPlayable, messagesTogether, lastsTogether, rowsTogether, Planned, fitted, played, heard}
+use Rattle.playing.specs.Performing.{entriesSaid, Ready, letterSection, AllPlayable, AllRise, messagesTogether, lastsTogether, rowsTogether, Planned, fitted, played, heard}
 use Rattle.playing.proofs.Played.{refused-answer, refused-steps, refused-words, tune-short, tune-answer, tune-steps, tune-words}
-use Rattle.playing.proofs.Together.{letters-playable, letters-last, letters-sound, letters-count, short-enough}
+use Rattle.playing.proofs.Together.{letters-playable, letters-last, letters-sound, letters-count, letters-rise, short-enough}
 
 module _ (voice : Voice) (header : ℕ) (body seek steps words : List ℕ) where
   abbrev items : Items
@@ -73,6 +73,9 @@ module _ (voice : Voice) (header : ℕ) (body seek steps words : List ℕ) where
     pub order-playable : AllPlayable (itemsOf voice body) (length body) (plan .spans) letters
     order-playable = letters-playable items (length body) (entriesSaid true seek) (plan .spans) letters (planned .spans)
 
+    pub order-rises : AllRise (itemsOf voice body) (plan .spans) letters
+    order-rises = letters-rise voice body (ready .reads) (entriesSaid true seek) (plan .spans) letters (planned .spans)
+
     pub order-short-enough : length letters ≤ 65536 → lastsTogether (plan .spans) letters ≤ 4611686018427387904
     order-short-enough = short-enough (plan .spans) letters (planned .short)
 
@@ -107,4 +110,4 @@ module _ (voice : Voice) (header : ℕ) (body seek steps words : List ℕ) where
             → m ≡ wordsTable words (heard voice true header (min (length steps) (length words)) body seek)
         order-words m e = tune-words _ header room tune order-is rows rows-are (plan .count) rows-many words m (omega arith) (omega arith) e
 
-pub ruleset order-played = (unordered-answer, unordered-steps, unordered-words, order-playable, order-short-enough, order-short, order-short-steps, order-short-words, order-steps-room, order-words-room, order-answer, order-steps, order-words)
+pub ruleset order-played = (unordered-answer, unordered-steps, unordered-words, order-playable, order-rises, order-short-enough, order-short, order-short-steps, order-short-words, order-steps-room, order-words-room, order-answer, order-steps, order-words)

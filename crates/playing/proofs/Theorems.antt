@@ -21,8 +21,8 @@ use Rattle.model.specs.Answer.{Performance, named, ordered, performed, playOf, 
 use Rattle.model.specs.declared.Event.{Event}
 use Rattle.model.specs.declared.PlayAnswer.{PlayAnswer}
 use Rattle.reading.proofs.OneTop.{then-fine, bind-fine}
-use Rattle.sections.specs.Spans.{Items}
-use Rattle.sections.proofs.Steps.{Rising, all-within}
+use Rattle.sections.specs.Spans.{Items, Rising}
+use Rattle.sections.proofs.Steps.{all-within}
 use Rattle.sections.proofs.Tunes.{tune-rises}
 
 -- THE TRACK that an accepted play is of, and the order it plays in

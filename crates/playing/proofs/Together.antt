@@ -3,21 +3,22 @@
 use Prim.Native.Nat.{ℕ, suc, _+_, _*_, _≤_}
 use mathlib.Core.Bool.{true}
 use mathlib.Core.List.{List, [], _∷_, _++_, map}
-use mathlib.Core.Path.{_≡_, refl, sym, _∙_, ap, ap₂}
+use mathlib.Core.Path.{_≡_, refl, sym, _∙_, ap, ap₂, subst}
 use lib.ListN.{length, length-append}
 use native.Mathlib.Omega.{arith}
 use Rattle.model.specs.Words.{sum, Placed}
 use Rattle.model.specs.Bytes.{_!_}
 use Rattle.model.specs.Item.{bodyOf, isFine, itemsOf}
-use Rattle.model.specs.Seek.{Entry}
-use Rattle.model.specs.Play.{At, playedFrom}
+use Rattle.model.specs.Seek.{Entry, phraseOf}
+use Rattle.model.specs.Play.{At, Section, playedFrom}
 use Rattle.model.specs.Word.{isMessage}
 use Rattle.model.specs.declared.Voice.{Voice}
 use Rattle.model.specs.declared.Event.{Event}
 use Rattle.model.specs.declared.Span.{Span}
-use Rattle.sections.specs.Spans.{Items, onsets, spanOf, spanRows}
+use Rattle.sections.specs.Spans.{Items, onsets, spanOf, spanRows, Rising}
 use Rattle.sections.proofs.Stretches.{span-sounds}
-use Rattle.playing.specs.Performing.{spanAt, letterSection, letterSpan, Spanned, AllPlayable, AllShort, messagesTogether, lastsTogether, rowsTogether}
+use Rattle.sections.proofs.Tunes.{Rises, phrase-section-rises}
+use Rattle.playing.specs.Performing.{spanAt, letterSection, letterSpan, Spanned, AllPlayable, AllRise, AllShort, messagesTogether, lastsTogether, rowsTogether}
 use Rattle.playing.proofs.Planning.{first-spanned, rest-spanned}
 use Rattle.playing.proofs.Writing.{rows-many}
 
@@ -46,6 +47,15 @@ short-together spans (letter ∷ letters) short =
 pub short-enough : (spans : List Span) (letters : List ℕ) → AllShort spans letters → length letters ≤ 65536 → lastsTogether spans letters ≤ 4611686018427387904
 short-enough spans letters short listed = omega (arith, short-together spans letters short)
 
+-- the span of a section that rises, rises
+pub span-rises : (voice : Voice) (body : List ℕ) → isFine (bodyOf voice body) ≡ true → (section : Section) → Rises (itemsOf voice body) section
+    → (span : Span) → span ≡ spanOf (itemsOf voice body) (length body) section
+    → (before : ℕ) → Rising before (before + span .lasts) (spanRows (itemsOf voice body) span before)
+unfolding spanOf
+span-rises voice body reads section rises span is before =
+    subst (λ (one : Span). Rising before (before + one .lasts) (spanRows (itemsOf voice body) one before)) (sym is)
+    (subst (Rising before (before + section .lasts)) (sym (span-sounds voice body reads section before)) (rises before))
+
 module _ (voice : Voice) (s : List ℕ) (reads : isFine (bodyOf voice s) ≡ true) (entries : List (Placed Entry)) (spans : List Span) where
   abbrev items : Items
   items = itemsOf voice s
@@ -61,6 +71,12 @@ module _ (voice : Voice) (s : List ℕ) (reads : isFine (bodyOf voice s) ≡ tru
       (ap (λ (span : Span). spanRows items span before) e ∙ span-sounds voice s reads section before)
       (ap (λ (span : Span). rowsTogether items spans (before + span .lasts) letters) e
       ∙ letters-sound (before + section .lasts) letters (rest-spanned items (length s) entries spans letter letters is))
+
+  pub letters-rise : (letters : List ℕ) → Spanned items (length s) entries spans letters → AllRise items spans letters
+  unfolding letterSpan letterSection
+  letters-rise letters is i h =
+      span-rises voice s reads (letterSection items entries (letters ! i)) (phrase-section-rises items (phraseOf (letters ! i) entries))
+      (spanAt spans (letters ! i)) (is i h)
 
   rows-count : (before : ℕ) (letters : List ℕ) → AllPlayable items (length s) spans letters
       → length (rowsTogether items spans before letters) ≡ messagesTogether spans letters

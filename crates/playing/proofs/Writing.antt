@@ -1,14 +1,16 @@
 -- THE ROWS of an order list, one section after the other: the invariant of `write_letters`'s loop, that what is still to be stored makes the
 -- whole, and what each turn and the end make of it.
-use Prim.Native.Nat.{ℕ, suc, _+_, _*_, _<_, _≤_}
-use mathlib.Core.Bool.{true}
+use Prim.Native.Nat.{ℕ, zero, suc, _+_, _*_, _<_, _≤_}
+use mathlib.Core.Bool.{true, false≢true}
 use mathlib.Core.List.{List, [], _∷_, _++_, map, map-append}
 use mathlib.Core.Path.{_≡_, refl, sym, _∙_, ap, subst}
 use mir.Syntax.{w64}
 use mir.Val.{Fits}
-use lib.ListN.{length, drop, length-map}
-use lib.Seq.{drop-cons, drop-length, sets, length-sets}
+use lib.ListN.{length, getD, set, drop, replicate, length-map, length-set, length-replicate}
+use lib.Seq.{drop-cons, drop-length, getD-set-same, getD-set-other, sets, length-sets}
 use native.Mathlib.Omega.{arith}
+use borrow.Author.Tests.{eqb-true, eqb-false}
+use Rattle.model.specs.Words.{_≡?_}
 use Rattle.model.specs.Bytes.{_!_}
 use Rattle.model.specs.Item.{bodyOf, isFine, itemsOf}
 use Rattle.model.specs.Play.{At}
@@ -16,16 +18,26 @@ use Rattle.model.specs.Word.{wordOf}
 use Rattle.model.specs.declared.Voice.{Voice}
 use Rattle.model.specs.declared.Event.{Event}
 use Rattle.model.specs.declared.Span.{Span}
+use Rattle.sections.specs.declared.First.{First}
 use Rattle.sections.specs.Spans.{spanRows, stepsOf, wordsOf, Playable}
+use Rattle.sections.specs.Again.{noFirst, firstAfter, StoredWhereKnown}
+use Rattle.model.proofs.Tests.{by-test}
 use Rattle.model.proofs.Stores.{sets-append}
 use Rattle.sections.proofs.Stretches.{span-counts}
-use Rattle.playing.specs.Performing.{spanAt, AllPlayable, messagesTogether, lastsTogether, rowsTogether}
+use Rattle.sections.proofs.PlayedAgain.{first-known, first-new, stored-kept, stored-new}
+use Rattle.playing.specs.Performing.{spanAt, AllPlayable, AllRise, messagesTogether, lastsTogether, rowsTogether}
 
 -- a playable span has as many rows as it says
 pub rows-many : (voice : Voice) (s : List ℕ) (before : ℕ) (span : Span) → isFine (bodyOf voice s) ≡ true → Playable (itemsOf voice s) (length s) span
     → length (spanRows (itemsOf voice s) span before) ≡ span .messages
 rows-many voice s before span reads playable =
     subst (λ (x : Span). length (spanRows (itemsOf voice s) x before) ≡ x .messages) (sym (playable .is)) (span-counts voice s reads (playable .section) before)
+
+-- a table that is filled with its default
+replicate-default : {A : Type 0} (n slot : ℕ) (value : A) → getD (replicate n value) slot value ≡ value
+replicate-default zero slot value = refl
+replicate-default (suc n) zero value = refl
+replicate-default (suc n) (suc slot) value = replicate-default n slot value
 
 -- a column of rows is stored in two parts
 column-stored : (column : At Event → ℕ) (l m : List ℕ) (at many : ℕ) (first second : List (At Event)) → m ≡ sets l at (map column first) → length first ≡ many
@@ -38,10 +50,13 @@ column-stored column l m at many first second e long =
     ∙ ap (sets l at) (sym (map-append column first second))
 
 module _ (voice : Voice) (s : List ℕ) (spans : List Span) (letters : List ℕ) where
-  pub record Writing (l m out outs : List ℕ) (at before i : ℕ) : Type 0 where
+  pub record Writing (l m out outs : List ℕ) (firsts : List First) (at before i : ℕ) : Type 0 where
     pub bytes : (k : ℕ) → letters ! k < 256
     pub reads : isFine (bodyOf voice s) ≡ true
     pub playable : AllPlayable (itemsOf voice s) (length s) spans letters
+    pub rises : AllRise (itemsOf voice s) spans letters
+    pub slots : length firsts ≡ 256
+    pub known : (slot : ℕ) → StoredWhereKnown (itemsOf voice s) (spanAt spans slot) (getD firsts slot noFirst) out outs at before
     pub listed : length letters ≤ 65536
     pub within : i ≤ length letters
     pub fits : at + messagesTogether spans (drop i letters) < 18446744073709551616
@@ -55,14 +70,18 @@ module _ (voice : Voice) (s : List ℕ) (spans : List Span) (letters : List ℕ)
     pub words : sets outs at (wordsOf (rowsTogether (itemsOf voice s) spans before (drop i letters)))
         ≡ sets m 0 (wordsOf (rowsTogether (itemsOf voice s) spans 0 letters))
 
-  pub write-starts : (l m : List ℕ) → ((k : ℕ) → letters ! k < 256) → isFine (bodyOf voice s) ≡ true → AllPlayable (itemsOf voice s) (length s) spans letters
+  pub write-starts : (l m : List ℕ) (first : First) → first ≡ noFirst → ((k : ℕ) → letters ! k < 256) → isFine (bodyOf voice s) ≡ true
+      → AllPlayable (itemsOf voice s) (length s) spans letters → AllRise (itemsOf voice s) spans letters
       → length letters ≤ 65536 → lastsTogether spans letters ≤ 4611686018427387904 → messagesTogether spans letters ≤ length l
-      → messagesTogether spans letters ≤ length m → length l < 18446744073709551616 → Writing l m l m 0 0 0
-  write-starts l m bytes reads playable listed early room rooms fits =
+      → messagesTogether spans letters ≤ length m → length l < 18446744073709551616 → Writing l m l m (replicate 256 first) 0 0 0
+  write-starts l m first none bytes reads playable rises listed early room rooms fits =
       record {
         bytes = bytes;
         reads = reads;
         playable = playable;
+        rises = rises;
+        slots = length-replicate 256 first;
+        known = λ slot flag. absurd (false≢true (sym (ap (λ (f : First). f .known) (ap (λ (f : First). getD (replicate 256 f) slot noFirst) none ∙ replicate-default 256 slot noFirst)) ∙ flag));
         listed = listed;
         within = omega arith;
         fits = omega arith;
@@ -75,7 +94,7 @@ module _ (voice : Voice) (s : List ℕ) (spans : List Span) (letters : List ℕ)
         words = refl;
       }
 
-  module _ (l m out outs : List ℕ) (at before i : ℕ) (w : Writing l m out outs at before i) where
+  module _ (l m out outs : List ℕ) (firsts : List First) (at before i : ℕ) (w : Writing l m out outs firsts at before i) where
     -- nothing is left to be stored
     none-left : length letters ≤ i → drop i letters ≡ []
     none-left past = let end : i ≡ length letters = omega (arith, w .within) in ap (λ (n : ℕ). drop n letters) end ∙ drop-length letters
@@ -97,6 +116,9 @@ module _ (voice : Voice) (s : List ℕ) (spans : List Span) (letters : List ℕ)
     pub write-offset-fits : Fits w64 (letters ! i * 40)
     write-offset-fits = record { fits = omega (arith, w .bytes i) }
 
+    pub write-first-fits : Fits w64 (letters ! i * 24)
+    write-first-fits = record { fits = omega (arith, w .bytes i) }
+
     module _ (here : i < length letters) where
       -- the span of the letter at hand
       abbrev span : Span
@@ -116,8 +138,11 @@ module _ (voice : Voice) (s : List ℕ) (spans : List Span) (letters : List ℕ)
       pub write-playable : Playable (itemsOf voice s) (length s) (spanAt spans (letters ! i))
       write-playable = w .playable i here
 
-      pub write-early : before ≤ 4611686018427387904
-      write-early = omega (arith, w .early)
+      pub write-early : before + spanAt spans (letters ! i) .lasts ≤ 4611686018427387904
+      write-early = omega (arith, w .early, lasts-next)
+
+      pub write-known : StoredWhereKnown (itemsOf voice s) (spanAt spans (letters ! i)) (getD firsts (letters ! i) noFirst) out outs at before
+      write-known = w .known (letters ! i)
 
       pub write-room-steps : at + spanAt spans (letters ! i) .messages ≤ length out
       write-room-steps = omega (arith, w .room-steps, messages-next)
@@ -140,15 +165,55 @@ module _ (voice : Voice) (s : List ℕ) (spans : List Span) (letters : List ℕ)
       abbrev later-rows : List (At Event)
       later-rows = rowsTogether (itemsOf voice s) spans (before + span .lasts) (drop (i + 1) letters)
 
+      abbrev at-next : ℕ
+      at-next = at + span .messages
+
+      abbrev before-next : ℕ
+      before-next = before + span .lasts
+
+      abbrev steps-next : List ℕ
+      steps-next = sets out at (stepsOf here-rows)
+
+      abbrev words-next : List ℕ
+      words-next = sets outs at (wordsOf here-rows)
+
+      -- what is known of where a span's rows stand, one letter on
+      still-known : (slot : ℕ) → StoredWhereKnown (itemsOf voice s) (spanAt spans slot) (getD firsts slot noFirst) steps-next words-next at-next before-next
+      still-known slot =
+          stored-kept (itemsOf voice s) (spanAt spans slot) out outs at before (getD firsts slot noFirst) (stepsOf here-rows) (wordsOf here-rows)
+          at-next before-next (omega arith) (omega arith) (w .known slot)
+
+      now-known : StoredWhereKnown (itemsOf voice s) span (record { known = true; row = at; before = before }) steps-next words-next at-next before-next
+      now-known flag =
+          stored-new (itemsOf voice s) span out outs at before (rows-many voice s before span (w .reads) write-playable) write-room-steps write-room-words
+          (w .rises i here before)
+
+      first-next : StoredWhereKnown (itemsOf voice s) span (firstAfter (getD firsts (letters ! i) noFirst) at before) steps-next words-next at-next before-next
+      first-next =
+          by-test (getD firsts (letters ! i) noFirst .known)
+          (λ t. subst (λ (f : First). StoredWhereKnown (itemsOf voice s) span f steps-next words-next at-next before-next)
+          (first-known (getD firsts (letters ! i) noFirst) at before t) (still-known (letters ! i)))
+          (λ t. subst (λ (f : First). StoredWhereKnown (itemsOf voice s) span f steps-next words-next at-next before-next)
+          (first-new (getD firsts (letters ! i) noFirst) at before t) now-known)
+
+      known-next : (slot : ℕ) (next-first : First) → next-first ≡ firstAfter (getD firsts (letters ! i) noFirst) at before
+          → StoredWhereKnown (itemsOf voice s) (spanAt spans slot) (getD (set firsts (letters ! i) next-first) slot noFirst) steps-next words-next at-next before-next
+      known-next slot next-first r =
+          by-test (slot ≡? letters ! i)
+          (λ t. let e = eqb-true slot (letters ! i) t in
+          rw (e, getD-set-same firsts (letters ! i) next-first noFirst (omega (arith, w .slots, w .bytes i)), r) first-next)
+          (λ t. let e = eqb-false slot (letters ! i) t in rw (getD-set-other firsts (letters ! i) slot next-first noFirst e) (still-known slot))
+
       rows-next : rowsTogether (itemsOf voice s) spans before (drop i letters) ≡ here-rows ++ later-rows
       unfolding rowsTogether
       rows-next = ap (rowsTogether (itemsOf voice s) spans before) next
 
       pub write-turns : (m₁ m₂ : List ℕ) → m₁ ≡ sets out at (stepsOf (spanRows (itemsOf voice s) (spanAt spans (letters ! i)) before))
           → m₂ ≡ sets outs at (wordsOf (spanRows (itemsOf voice s) (spanAt spans (letters ! i)) before))
-          → Writing l m m₁ m₂ (at + spanAt spans (letters ! i) .messages) (before + spanAt spans (letters ! i) .lasts) (i + 1)
+          → (next-first : First) → next-first ≡ firstAfter (getD firsts (letters ! i) noFirst) at before
+          → Writing l m m₁ m₂ (set firsts (letters ! i) next-first) (at + spanAt spans (letters ! i) .messages) (before + spanAt spans (letters ! i) .lasts) (i + 1)
       unfolding stepsOf wordsOf
-      write-turns m₁ m₂ p q =
+      write-turns m₁ m₂ p q next-first r =
           let many = rows-many voice s before span (w .reads) write-playable in
           let long₁ : length m₁ ≡ length out = ap length p ∙ length-sets out at (stepsOf here-rows) in
           let long₂ : length m₂ ≡ length outs = ap length q ∙ length-sets outs at (wordsOf here-rows) in
@@ -156,6 +221,9 @@ module _ (voice : Voice) (s : List ℕ) (spans : List Span) (letters : List ℕ)
             bytes = w .bytes;
             reads = w .reads;
             playable = w .playable;
+            rises = w .rises;
+            slots = length-set firsts (letters ! i) next-first ∙ w .slots;
+            known = λ slot. rw (p, q) (known-next slot next-first r);
             listed = w .listed;
             within = omega arith;
             fits = omega (arith, w .fits, messages-next);
@@ -180,8 +248,10 @@ pub ruleset writing = (
   write-slot,
   write-slot-fits,
   write-offset-fits,
+  write-first-fits,
   write-playable,
   write-early,
+  write-known,
   write-room-steps,
   write-room-words,
   write-at-fits,

@@ -10,7 +10,7 @@ ghost use Rattle.model.specs.Item.{isFine, bodyOf, itemsOf};
 ghost use Rattle.model.specs.Seek.{phraseOf};
 ghost use Rattle.sections.specs.Spans.{stepsOf, wordsOf};
 ghost use Rattle.playing.specs.Performing.{Ready, entriesSaid, letterSpan, noSpan, Named, Planned};
-ghost use Rattle.playing.specs.Performing.{AllPlayable, messagesTogether, lastsTogether, rowsTogether};
+ghost use Rattle.playing.specs.Performing.{AllPlayable, AllRise, messagesTogether, lastsTogether, rowsTogether};
 use model::FoundPhrase;
 use model::Plan;
 use model::Span;
@@ -69,7 +69,7 @@ pub fn plan_letters(voice: Voice, body: &[u8], seek: &[u8], letters: &[u8]) -> P
     Plan { spans, count, end }
 }
 
-// The rows of all letters of a list, one section after the other.
+// The rows of all letters of a list, one section after the other. A section that is played again is copied from where it was written first.
 pub fn write_letters(
     voice: Voice,
     body: &[u8],
@@ -82,18 +82,23 @@ pub fn write_letters(
     requires { ⌜ isFine (bodyOf voice (now body)) ≡ true ⌝ }
     requires { ⌜ length (now letters) ≤ 65536 ⌝ }
     requires { ⌜ AllPlayable (itemsOf voice (now body)) (length (now body)) spans (now letters) ⌝ }
+    requires { ⌜ AllRise (itemsOf voice (now body)) spans (now letters) ⌝ }
     requires { ⌜ lastsTogether spans (now letters) ≤ 4611686018427387904 ⌝ }
     requires { ⌜ messagesTogether spans (now letters) ≤ length (now steps) ⌝ }
     requires { ⌜ messagesTogether spans (now letters) ≤ length (now words) ⌝ }
     ensures { λ _. ⌜ now (steps .exit) ≡ sets (now (steps .entry)) 0 (stepsOf (rowsTogether (itemsOf voice (now (body .entry))) spans 0 (now (letters .entry)))) ⌝ }
     ensures { λ _. ⌜ now (words .exit) ≡ sets (now (words .entry)) 0 (wordsOf (rowsTogether (itemsOf voice (now (body .entry))) spans 0 (now (letters .entry)))) ⌝ }
 {
+    let mut firsts = [sections::no_first(); 256];
     let mut at: usize = 0;
     let mut before: u64 = 0;
     let mut i: usize = 0;
     while i < letters.len() {
-        let span = spans[letters[i] as usize];
-        sections::write_span(voice, body, span, before, steps, words, at);
+        let slot = letters[i] as usize;
+        let span = spans[slot];
+        let first = firsts[slot];
+        sections::write_section(voice, body, span, first, before, steps, words, at);
+        firsts[slot] = sections::first_after(first, at, before);
         at += span.messages;
         before += span.lasts;
         i += 1;

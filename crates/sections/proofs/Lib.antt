@@ -11,3 +11,5 @@ pub mod Steps
 pub mod Tunes
 pub mod Throughout
 pub mod Lengths
+pub mod Copying
+pub mod PlayedAgain

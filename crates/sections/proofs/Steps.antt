@@ -14,13 +14,8 @@ use Rattle.model.specs.Word.{isMessage}
 use Rattle.model.specs.Order.{between, streamSection}
 use Rattle.model.specs.declared.Event.{Event}
 use Rattle.model.proofs.Tests.{by-test, and-right}
-use Rattle.sections.specs.Spans.{Items, onsets, messagesAfter, messagesWithin, counted}
+use Rattle.sections.specs.Spans.{Items, onsets, messagesAfter, messagesWithin, counted, Rising}
 use Rattle.sections.proofs.Stretches.{within, kept-after, all-kept}
-
--- steps that never fall, from a low one up to a high one
-abbrev pub Rising : ℕ → ℕ → List (At Event) → Type 0
-Rising low high [] = low ≤ high
-Rising low high (row ∷ rows) = (low ≤ row .step) × Rising (row .step) high rows
 
 pub rising-from : (low lower high : ℕ) (rows : List (At Event)) → lower ≤ low → Rising low high rows → Rising lower high rows
 rising-from low lower high [] h rises = omega arith

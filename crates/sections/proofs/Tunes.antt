@@ -14,8 +14,8 @@ use Rattle.model.specs.Points.{timeOf}
 use Rattle.model.specs.Order.{between, streamSection, phraseSection, lettersPlayed, phraseOrder, orderOf, playOrder, tuneIn}
 use Rattle.model.specs.Track.{Track}
 use Rattle.model.specs.declared.Event.{Event}
-use Rattle.sections.specs.Spans.{Items, onsets}
-use Rattle.sections.proofs.Steps.{Rising, rising-from, between-rises, stream-rises}
+use Rattle.sections.specs.Spans.{Items, onsets, Rising}
+use Rattle.sections.proofs.Steps.{rising-from, between-rises, stream-rises}
 
 rising-append : (low middle high : ℕ) (rows more : List (At Event)) → Rising low middle rows → Rising middle high more → Rising low high (rows ++ more)
 rising-append low middle high [] more h k = rising-from middle low high more h k

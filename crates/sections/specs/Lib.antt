@@ -1,2 +1,3 @@
 pub mod Spans
 pub mod Reaching
+pub mod Again

@@ -85,6 +85,11 @@ stepsOf rows = map (λ row. row .step) rows
 unfoldable pub wordsOf : List (At Event) → List ℕ
 wordsOf rows = map (λ row. wordOf (row .event)) rows
 
+-- steps that never fall, from a low one up to a high one
+abbrev pub Rising : ℕ → ℕ → List (At Event) → Type 0
+Rising low high [] = low ≤ high
+Rising low high (row ∷ rows) = (low ≤ row .step) × Rising (row .step) high rows
+
 -- What a span of a body of a size can come to: each message takes a byte, and each byte at most the longest duration.
 pub record Small (size : ℕ) (span : Span) : Type 0 where
   pub few : span .messages ≤ size

@@ -1,12 +1,23 @@
 // The sections of a track, played: the word of a message, a section as a stretch of a body, and the rows of that stretch in two lent
 // tables.
+mod again;
 mod rows;
 mod span;
 mod walk;
 mod word;
 
+pub use again::first_after;
+pub use again::no_first;
+pub use again::write_section;
 pub use rows::write_span;
 pub use span::span_between;
 pub use span::span_from;
 pub use word::is_message;
 pub use word::word_of;
+
+// Where the rows of a section were written first, if that is known, and what had been played before.
+pub struct First {
+    pub known: bool,
+    pub row: usize,
+    pub before: u64,
+}

@@ -8,22 +8,26 @@ use Rattle.playing.proofs.letters.write_letters.Statement.{statement}
 use Rattle.playing.proofs.letters.write_letters.Tie as tie
 
 abbrev Inv-loop : tie.InvT-loop
-Inv-loop voice body letters steps₀ words₀ spans at₀ before₀ i₀ steps words at before i =
-    Writing voice body spans letters steps₀ words₀ steps words at before i
+Inv-loop voice body letters steps₀ words₀ spans firsts₀ at₀ before₀ i₀ steps words firsts at before i =
+    Writing voice body spans letters steps₀ words₀ steps words firsts at before i
 
 abbrev μ-loop : tie.MeasureT-loop
-μ-loop voice body letters steps₀ words₀ spans at₀ before₀ i₀ steps words at before i = length letters - i
+μ-loop voice body letters steps₀ words₀ spans firsts₀ at₀ before₀ i₀ steps words firsts at before i =
+    length letters - i
+
+no-first-requires : tie.Need-no-first-requires Inv-loop μ-loop
+no-first-requires c κs = search (needs, writing)
 
 loop-holds : tie.Need-loop-holds Inv-loop μ-loop
 loop-holds c =
-    write-starts _ _ _ _ _ _ (λ k. omega (arith, c .before .before .shared-slice-known2 .given k)) (search needs) (search needs) (search needs) (search needs)
-    (search needs) (search needs) (search needs)
+    write-starts _ _ _ _ _ _ _ (search needs) (λ k. omega (arith, c .before .before .before .shared-slice-known2 .given k)) (search needs) (search needs) (search needs) (search needs)
+    (search needs) (search needs) (search needs) (search needs)
 
-shared-slice-read-span : tie.Need-shared-slice-read-span Inv-loop μ-loop
-shared-slice-read-span c = search (needs, writing)
+shared-slice-read-slot : tie.Need-shared-slice-read-slot Inv-loop μ-loop
+shared-slice-read-slot c = search (needs, writing)
 
-cast-span : tie.Need-cast-span Inv-loop μ-loop
-cast-span c = search (needs, writing)
+cast-slot : tie.Need-cast-slot Inv-loop μ-loop
+cast-slot c = search (needs, writing)
 
 mul-span : tie.Need-mul-span Inv-loop μ-loop
 mul-span c = search (needs, writing)
@@ -31,8 +35,23 @@ mul-span c = search (needs, writing)
 array-copy-out-span : tie.Need-array-copy-out-span Inv-loop μ-loop
 array-copy-out-span c = search (needs, writing)
 
-write-span-requires : tie.Need-write-span-requires Inv-loop μ-loop
-write-span-requires c κs = (search needs, (search needs, (search writing, (search writing, (search writing, search writing)))))
+mul-first : tie.Need-mul-first Inv-loop μ-loop
+mul-first c = search (needs, writing)
+
+array-copy-out-first : tie.Need-array-copy-out-first Inv-loop μ-loop
+array-copy-out-first c = search (needs, writing)
+
+write-section-requires : tie.Need-write-section-requires Inv-loop μ-loop
+write-section-requires c κs = (search needs, (search needs, (search writing, (search writing, (search writing, (search writing, search writing))))))
+
+first-after-requires : tie.Need-first-after-requires Inv-loop μ-loop
+first-after-requires c κs = search (needs, writing)
+
+mul-firsts : tie.Need-mul-firsts Inv-loop μ-loop
+mul-firsts c = search (needs, writing)
+
+array-set-from-firsts : tie.Need-array-set-from-firsts Inv-loop μ-loop
+array-set-from-firsts c = search (needs, writing)
 
 add-at : tie.Need-add-at Inv-loop μ-loop
 add-at c = search (needs, writing)
@@ -64,12 +83,18 @@ write-letters-spec =
     (tie.spec
     Inv-loop
     μ-loop
+    no-first-requires
     loop-holds
-    shared-slice-read-span
-    cast-span
+    shared-slice-read-slot
+    cast-slot
     mul-span
     array-copy-out-span
-    write-span-requires
+    mul-first
+    array-copy-out-first
+    write-section-requires
+    first-after-requires
+    mul-firsts
+    array-set-from-firsts
     add-at
     add-before
     add-i

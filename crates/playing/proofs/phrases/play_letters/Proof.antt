@@ -20,7 +20,7 @@ returns : tie.Need-returns
 returns c = (search (needs, order-played), (search (needs, order-played), search (needs, order-played)))
 
 write-letters-requires : tie.Need-write-letters-requires
-write-letters-requires c κs = (search needs, (search needs, (search needs, (search order-played, (search (needs, order-played), (search (needs, order-played), search (needs, order-played)))))))
+write-letters-requires c κs = (search needs, (search needs, (search needs, (search order-played, (search order-played, (search (needs, order-played), (search (needs, order-played), search (needs, order-played))))))))
 
 same-length-3 : tie.Need-same-length-3
 same-length-3 c = search needs
