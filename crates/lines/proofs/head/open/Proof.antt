@@ -36,6 +36,7 @@ use denote.Exit.{yes}
 use Rattle.lines.specs.declared.head.Head.{Head}
 use Rattle.lines.proofs.head.Head as T
 use Rattle.lines.proofs.head.Head.Laws as T′
+use Rattle.lines.proofs.head.open.Key.{name as #lines·head·open}
 use Rattle.lines.proofs.head.open as open′
 use Rattle.lines.proofs.head.open.Statement as stated
 use Rattle.lines.proofs.head.open.Code as code

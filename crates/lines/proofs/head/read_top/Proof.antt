@@ -47,10 +47,13 @@ use Rattle.model.proofs.ReadTop as S
 use Rattle.model.proofs.ReadTop.Laws as S′
 use Rattle.lines.proofs.head.open as open′
 use Rattle.lines.proofs.head.open.Symbol as new-def
+use Rattle.lines.proofs.head.open.Symbol.{name as #lines·head·open}
 use Rattle.lines.proofs.head.open.Met as new-thm
 use Rattle.lines.proofs.head.next as next
 use Rattle.lines.proofs.head.next.Symbol as next-def
+use Rattle.lines.proofs.head.next.Symbol.{name as #lines·head·next}
 use Rattle.lines.proofs.head.next.Met as next-thm
+use Rattle.lines.proofs.head.read_top.Key.{name as #lines·head·read-top}
 use Rattle.lines.proofs.head.read_top as read′
 use Rattle.lines.proofs.head.read_top.Statement as stated
 use Rattle.lines.proofs.head.read_top.Code as code
