@@ -5,7 +5,6 @@ use mathlib.Core.Bool.{Bool, true}
 use mathlib.Core.List.{List}
 use mathlib.Core.Option.{Option, none, some}
 use lib.ListN.{length, take}
-use borrow.Author.Tests.{lt-ltb, le-ltb}
 use Rattle.model.specs.Words.{if_then_else_, _or_, _<?_, Checked, Checked.fine, Checked.refused, passed, _>>=_, _>>_}
 use Rattle.model.specs.Item.{isFine}
 use Rattle.model.specs.Play.{Section}
@@ -22,8 +21,9 @@ use Rattle.model.specs.declared.FlattenAnswer.{FlattenAnswer}
 use Rattle.model.specs.declared.FlattenAnswer.the-variants as flatten
 use Rattle.model.proofs.Tests.{by-test}
 use Rattle.reading.specs.Stages.{fileAnswer}
+use Rattle.reading.proofs.Stated.{stated-past, stated-over, stated-within, stated-small}
 use Rattle.playing.specs.Performing.{bytesIn, Inside, Open, Opens, trackNamed, rowPerformed}
-use Rattle.playing.proofs.Operations.{bodies-ready, whole-small}
+use Rattle.playing.proofs.Operations.{bodies-ready}
 use Rattle.playing.proofs.RowPerformed.{stated-fine, stated-refused, opened-track, row-inside, no-track}
 use Rattle.flattening.specs.Orders.{fitted}
 use Rattle.flattening.specs.Flattening.{sectionsPlain, flattened, bodiesFlattened, rowFlattened}
@@ -132,22 +132,18 @@ pub ruleset stated-flattened = (stated-fine, stated-answer, stated-room)
 
 -- THE BUFFER
 
-flatten-is : (buffer : List ℕ) (n row room : ℕ) → flattenOf buffer n row room ≡ rowFlattened room (fileOf buffer n) row
+flatten-is : (buffer : List ℕ) (n row room : ℕ) (c : Checked File) → fileOf buffer n ≡ c → flattenOf buffer n row room ≡ rowFlattened room c row
 unfolding flattenOf performed rowFlattened rowPerformed
-flatten-is buffer n row room = refl
+flatten-is buffer n row room c e = ap (λ (x : Checked File). rowFlattened room x row) e
 
 module _ (buffer : List ℕ) (n row room : ℕ) where
-  unstated : ((length buffer <? n) or (65536 <? n)) ≡ true → flattenOf buffer n row room ≡ refused 1 0
-  unfolding fileOf rowFlattened rowPerformed _>>=_ _>>_ if_then_else_
-  unstated h = flatten-is buffer n row room ∙ rw h
-
   past : length buffer < n → flattenOf buffer n row room ≡ refused 1 0
-  unfolding _or_
-  past h = unstated (simp lt-ltb)
+  unfolding rowFlattened rowPerformed _>>=_
+  past h = flatten-is buffer n row room (refused 1 0) (stated-past buffer n h)
 
   over : n ≤ length buffer → 65536 < n → flattenOf buffer n row room ≡ refused 1 0
-  unfolding _or_
-  over h k = unstated (simp (le-ltb, lt-ltb))
+  unfolding rowFlattened rowPerformed _>>=_
+  over h k = flatten-is buffer n row room (refused 1 0) (stated-over buffer n h k)
 
   pub past-answer : length buffer < n → flatten.Refused 1 0 ≡ flattenAnswer (flattenOf buffer n row room)
   past-answer h = refused-answer _ 1 0 (past h)
@@ -163,8 +159,7 @@ module _ (buffer : List ℕ) (n row room : ℕ) where
 
   module _ (h : n ≤ length buffer) (k : n ≤ 65536) where
     within : rowFlattened room (contentsOf (take n buffer)) row ≡ flattenOf buffer n row room
-    unfolding fileOf _>>_ if_then_else_ _or_
-    within = sym (flatten-is buffer n row room ∙ simp le-ltb)
+    within = sym (flatten-is buffer n row room (contentsOf (take n buffer)) (stated-within buffer n h k))
 
     pub whole-answer : (r : FlattenAnswer) → r ≡ flattenAnswer (rowFlattened room (contentsOf (take n buffer)) row)
         → r ≡ flattenAnswer (flattenOf buffer n row room)
@@ -174,4 +169,4 @@ module _ (buffer : List ℕ) (n row room : ℕ) where
         → m ≡ flattenRoom l (flattenOf buffer n row room)
     whole-room = same-room _ _ within
 
-pub ruleset buffers-flattened = (past-answer, past-room, over-answer, over-room, whole-small, whole-answer, whole-room)
+pub ruleset buffers-flattened = (past-answer, past-room, over-answer, over-room, stated-small, whole-answer, whole-room)

@@ -57,9 +57,6 @@ module _ (voice : Voice) (s : List ℕ) (spans : List Span) (letters : List ℕ)
   abbrev items : Items
   items = itemsOf voice s
 
-  abbrev whole-form : List ℕ
-  whole-form = orderBytes s (itemsOf voice s) spans 0 0 letters
-
   pub record Storing (l out : List ℕ) (at before past i : ℕ) : Type 0 where
     pub bytes : (k : ℕ) → letters ! k < 256
     pub playable : AllPlayable (itemsOf voice s) (length s) spans letters

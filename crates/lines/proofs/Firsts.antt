@@ -20,12 +20,13 @@ use Rattle.model.specs.declared.ReadChunk.the-variants as chunk
 use Rattle.model.specs.declared.ReadTop.{ReadTop}
 use Rattle.model.specs.declared.ReadTop.the-variants as top
 use Rattle.model.specs.declared.FirstTrack.the-variants.{At, Nowhere}
+use Rattle.model.proofs.Outcomes.{fine-some}
 use Rattle.model.proofs.Tests.{if-false}
 use Rattle.model.proofs.Walks.{Stand}
 use Rattle.chunks.proofs.Lists.{ChunkAhead, chunk-ahead}
 use Rattle.chunks.proofs.Searches.{none-left, never-cut, first-left}
 use Rattle.reading.specs.Stages.{placed, topsOf}
-use Rattle.reading.proofs.OneTop.{fine-some, track-parts}
+use Rattle.reading.proofs.TrackMade.{track-made}
 use Rattle.reading.proofs.Accepted.{contents-made, each-fine, each-none, OpenedAs, opened-as, fixed-inside}
 use Rattle.lines.specs.Tops.{voicedTop, chunkTop, topMet, firstOf}
 
@@ -117,10 +118,10 @@ module _ (s : List ℕ) (end k at : ℕ) (w : Nearing s end k at) where
           )
       meets-top (readable found track) rest tops stand opens opened same =
           let voice = opened .1 in
-          let parts = track-parts s voice (placed s at size) track (opened .3) in
+          let made = track-made s voice (placed s at size) track (opened .3) in
           let room = fixed-inside s voice (placed s at size) track (opened .3) in
           subst (λ v. Meets (voicedTop s at size next v)) (sym (opened .2))
-          (subst Meets (sym (if-false _ _ _ (le-ltb size 6 room))) (ap (λ (code : ℕ). At k (milliseconds code)) (sym (parts .3)) ∙ same))
+          (subst Meets (sym (if-false _ _ _ (le-ltb size 6 room))) (ap (λ (code : ℕ). At k (milliseconds code)) (sym (made .based)) ∙ same))
 
       meets-chunk : Meets (voicedTop s at size next (voiceOf s (placed s at size)))
       meets-chunk =

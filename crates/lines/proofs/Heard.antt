@@ -21,13 +21,13 @@ use Rattle.model.specs.ListingText.{bytes, linesText, listingText}
 use Rattle.model.specs.declared.Event.{Event}
 use Rattle.model.specs.declared.PlayAnswer.{PlayAnswer}
 use Rattle.model.specs.declared.PlayAnswer.the-variants as play
+use Rattle.model.proofs.Outcomes.{then-fine, bind-fine}
 use Rattle.model.proofs.Tests.{by-test, if-true, if-false}
 use Rattle.inverse.proofs.WordBack.{word-back}
 use Rattle.items.proofs.Standing.{body-stands}
 use Rattle.sections.proofs.Small.{lasting-short}
 use Rattle.sections.proofs.Throughout.{OfMessages, of-played, body-in-word}
 use Rattle.sections.proofs.Lengths.{tune-short}
-use Rattle.reading.proofs.OneTop.{bind-fine, then-fine}
 use Rattle.reading.proofs.Accepted.{not-refused}
 use Rattle.plain.proofs.NamedTracks.{Readable, named-reads}
 use Rattle.playing.proofs.Theorems.{PlayMade, play-made, steps-rise}

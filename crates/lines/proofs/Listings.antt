@@ -25,9 +25,9 @@ use Rattle.model.specs.declared.ReadAnswer.the-variants as read
 use Rattle.model.specs.declared.FirstTrack.{FirstTrack}
 use Rattle.model.specs.declared.FirstTrack.the-variants.{At, Nowhere}
 use Rattle.model.specs.declared.Listed.the-variants.{Text, Full}
+use Rattle.model.proofs.Outcomes.{then-fine, bind-fine}
 use Rattle.model.proofs.Tests.{if-true, if-false}
 use Rattle.reading.specs.Stages.{topsOf}
-use Rattle.reading.proofs.OneTop.{bind-fine, then-fine}
 use Rattle.reading.proofs.Accepted.{stated-bytes, stated-small}
 use Rattle.playing.proofs.Played.{written-front}
 use Rattle.lines.specs.Fields.{tuneListed, playListed}

@@ -2,6 +2,8 @@ pub mod Answers
 pub mod Below
 pub mod Codes
 pub mod Examples
+pub mod Outcomes
+pub mod Parts
 pub mod PastLength
 pub mod Stores
 pub mod Tests

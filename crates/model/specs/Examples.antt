@@ -80,7 +80,7 @@ tuneFile letters = scoreFile phrases (tuneSeek letters) tuneBody
 -- An example: something given and what it comes to.
 pub data Example : Type 0 where
   duration : List ℕ → ReadDuration → Example
-  note : ℕ → Pitch → Example
+  note : ℕ → ℕ → Pitch → Example
   body : List ℕ → Checked (List (Placed (Item Event))) → Example
   plays : List ℕ → Checked (Tune Event) → Example
   flattens : List ℕ → Checked (List ℕ) → Example
@@ -89,7 +89,7 @@ pub data Example : Type 0 where
 
 abbrev pub Holds : Example → Type 0
 Holds (duration bytes value) = durationAt bytes 0 ≡ value
-Holds (note byte pitch) = pitchOf byte 0 ≡ pitch
+Holds (note byte shift pitch) = pitchOf byte shift ≡ pitch
 Holds (body bytes items) = bodyOf Score bytes ≡ items
 Holds (plays file tune) = playOf file (length file) 2 4096 ≡ tune
 Holds (flattens file bytes) = flattenOf file (length file) 2 65536 ≡ bytes
@@ -121,8 +121,15 @@ durations =
     ∷ duration (0xFF ∷ 0x80 ∷ []) Refused
     ∷ []
 
+-- without shift, and the two ends with it
 abbrev pub notes : List Example
-notes = note 0x29 (Semitones (pos 0)) ∷ note 0x01 (Semitones (negℤ (pos 32))) ∷ note 0x3C (Semitones (pos 15)) ∷ []
+notes =
+    note 0x29 0x00 (Semitones (pos 0))
+    ∷ note 0x01 0x00 (Semitones (negℤ (pos 32)))
+    ∷ note 0x3C 0x00 (Semitones (pos 15))
+    ∷ note 0x01 0x84 (Semitones (negℤ (pos 80)))
+    ∷ note 0x3C 0x04 (Semitones (pos 63))
+    ∷ []
 
 abbrev pub bodies : List Example
 bodies =

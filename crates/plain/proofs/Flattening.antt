@@ -19,10 +19,10 @@ use Rattle.model.specs.File.{File, fileOf, trackAt}
 use Rattle.model.specs.Order.{phraseOrder, orderOf, playOrder}
 use Rattle.model.specs.Answer.{Performance, named, ordered, performed, plainOf, flattenOf}
 use Rattle.model.specs.declared.Event.{Event}
+use Rattle.model.proofs.Outcomes.{bind-fine}
 use Rattle.model.proofs.Tests.{by-test, first-true, second-true}
-use Rattle.reading.proofs.OneTop.{bind-fine}
-use Rattle.plain.proofs.FileRefusals.{file-refused}
-use Rattle.plain.proofs.PlainTracks.{named-fine}
+use Rattle.reading.proofs.FileRefusals.{file-refused}
+use Rattle.reading.proofs.Performed.{named-fine}
 
 -- a plain form that is longer than a body can be, or than the room
 abbrev pub TooLong : ℕ → Performance → Type 0

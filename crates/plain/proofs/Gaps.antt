@@ -18,10 +18,6 @@ module _ (longest gap : ℕ) (some : 0 < longest) where
   unfolding times left
   left-short = omega (arith, div-add-mod' (gap - 1) longest, mod-lt (gap - 1) some)
 
-  pub left-none : left longest gap ≡ 0 → gap ≡ 0
-  unfolding times left
-  left-none e = omega (arith, div-add-mod' (gap - 1) longest, mod-lt (gap - 1) some)
-
   times-none : gap ≤ longest → times longest gap ≡ 0
   unfolding times
   times-none short = div-eq-of-lt (omega arith)

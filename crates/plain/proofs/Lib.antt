@@ -6,5 +6,4 @@ pub mod PlainReads
 pub mod NamedTracks
 pub mod Performances
 pub mod PlainTracks
-pub mod FileRefusals
 pub mod Flattening

@@ -4,7 +4,7 @@ use Prim.Native.Nat.{ℕ, _+_, _<_, _≤_}
 use mathlib.Core.List.{List, [], _∷_}
 use mathlib.Core.Bool.{Bool, true, false, false≢true}
 use mathlib.Core.Option.{Option, none, some}
-use mathlib.Core.Path.{_≡_, refl, sym, _∙_, ap, subst}
+use mathlib.Core.Path.{_≡_, refl, sym, _∙_, ap, ap₂}
 use lib.ListN.{length, take, drop, length-take, length-drop, List·getD-eq-default}
 use lib.Seq.{getD-take, getD-drop}
 use native.Mathlib.Omega.{arith}
@@ -18,10 +18,12 @@ use Rattle.model.specs.Track.{Track, seekIn, entriesOf, trackOf}
 use Rattle.model.specs.File.{File, Top, Top.leaf, Top.readable, topOf, fileOf, partsOf, trackIn, trackFrom, trackAt}
 use Rattle.model.specs.declared.Voice.{Voice}
 use Rattle.model.specs.declared.Event.{Event}
+use Rattle.model.proofs.Parts.{part-short}
+use Rattle.model.proofs.Outcomes.{then-fine, bind-fine, counted-fine}
 use Rattle.model.proofs.Tests.{by-test, if-true, if-false}
 use Rattle.seek.proofs.Standing.{allEntries}
 use Rattle.seek.proofs.Naming.{ordered}
-use Rattle.reading.proofs.OneTop.{then-fine, bind-fine}
+use Rattle.reading.proofs.TrackMade.{track-made}
 use Rattle.reading.proofs.Accepted.{stated-bytes, stated-small, contents-made, each-fine, each-none, OpenedAs, opened-as}
 
 -- bytes of a part are bytes
@@ -37,15 +39,6 @@ take-bytes s size bytes k =
 
 part-bytes : (s : List ℕ) (place size : ℕ) → ((k : ℕ) → s ! k < 256) → (k : ℕ) → part s place size ! k < 256
 part-bytes s place size bytes k = take-bytes (drop place s) size (λ j. omega (arith, getD-drop place s j 0, bytes (place + j))) k
-
-part-short : (s : List ℕ) (place size : ℕ) → length (part s place size) ≤ length s
-part-short s place size = simp (length-take, length-drop) (omega arith)
-
--- the body of a track
-counted-fine : {A : Type 0} (base : ℕ) (c : Checked A) (a : A) → countedFrom base c ≡ fine a → c ≡ fine a
-unfolding countedFrom
-counted-fine base (fine b) a e = e
-counted-fine base (refused number place) a e = let z : _≡_ {A = ℕ} 0 1 = cc in absurd (omega arith)
 
 -- an order list has no more letters than the file has bytes
 listed-few : (s letters : List ℕ) (entries : List (Placed Entry)) → seekOf 1 s ≡ fine entries → orderList entries ≡ some letters → length letters ≤ length s
@@ -80,28 +73,16 @@ record Body (s : List ℕ) (track : Track) : Type 0 where
   reads : bodyOf (track .voice) (track .body) ≡ fine (track .items)
   few : (letters : List ℕ) → track .phrases ≡ true → orderList (track .entries) ≡ some letters → length letters ≤ length s
 
-abbrev trackOr : Track → Checked Track → Track
-trackOr other (fine track) = track
-trackOr other (refused number place) = other
-
 track-body : (s : List ℕ) (voice : Voice) (chunk : Chunk) (track : Track) → trackOf s voice chunk ≡ fine track → Body s track
-unfolding trackOf
 track-body s voice chunk track e =
-    let a = then-fine _ _ track e in
-    let b = bind-fine _ _ track (a .1) in
-    let c = bind-fine _ _ track (b .2) in
-    let d = then-fine _ _ track (c .2) in
-    let f = then-fine _ _ track (d .1) in
-    let g = bind-fine _ _ track (f .1) in
-    let h = bind-fine _ _ track (g .2) in
-    subst (Body s) (ap (trackOr track) (h .2))
-    (record {
-      place = c .0 .place + 8;
-      size = c .0 .size;
-      is = refl;
-      reads = counted-fine (c .0 .place + 8) _ (g .0) (g .1);
-      few = letters-few _ s (g .0) _ _ (h .0) (h .1);
-    })
+    let made = track-made s voice chunk track e in
+    record {
+      place = made .sequence .place + 8;
+      size = made .sequence .size;
+      is = made .body;
+      reads = ap₂ bodyOf (made .voiced) (made .body) ∙ made .reads;
+      few = letters-few (track .phrases) s (track .items) _ _ (track .entries) (made .entries);
+    }
 
 -- the track that a row names
 track-opened : (s : List ℕ) (chunk : Chunk) (top : Top) (track : Track) → OpenedAs s chunk top → trackIn top ≡ some track → Body s track

@@ -13,9 +13,10 @@ use Rattle.model.specs.Content.{Content, contentOf, contentsIn, isSaid, handyPh
 use Rattle.model.specs.declared.Voice.{Voice}
 use Rattle.inverse.proofs.WrittenReads.{sequence-reads}
 use Rattle.sections.specs.Spans.{Items}
+use Rattle.sections.proofs.WholeStream.{streamed}
 use Rattle.plain.proofs.PlainPlays.{Rises, AllSaid, durations, plain-plays, plain-lasts}
 use Rattle.plain.proofs.PlainItems.{Writable, plain-fits, plain-closes, plain-marked, plain-some}
-use Rattle.plain.proofs.Streams.{streamed, stream-told}
+use Rattle.plain.proofs.Streams.{stream-told}
 
 -- a tune that can be written: its messages never fall back, end where it ends, and are messages of the voice
 pub record WritableTune (voice : Voice) (tune : Tune Content) : Type 0 where

@@ -20,35 +20,19 @@ use Rattle.model.specs.Plain.{plainItems, plainForm}
 use Rattle.model.specs.Content.{contentOf, contentsIn, handyPhone}
 use Rattle.model.specs.Answer.{Performance, named, ordered, performed, plainOf}
 use Rattle.model.specs.declared.Event.{Event}
-use Rattle.reading.proofs.OneTop.{bind-fine}
-use Rattle.plain.proofs.Streams.{streamed}
+use Rattle.model.proofs.Outcomes.{bind-fine}
+use Rattle.reading.proofs.Performed.{performed-so}
+use Rattle.sections.proofs.WholeStream.{streamed}
 use Rattle.plain.proofs.PlainReads.{WritableTune, plain-reads}
 use Rattle.plain.proofs.NamedTracks.{named-reads}
 use Rattle.plain.proofs.Performances.{tune-writable}
 
--- WHAT A PERFORMANCE IS
-
-pub named-fine : (o : Option Track) (track : Track) → named o ≡ fine track → o ≡ some track
-unfolding named
-named-fine none track e = let z : _≡_ {A = ℕ} 0 1 = cc in absurd (omega arith)
-named-fine (some one) track e = let same : one ≡ track = cc in ap some same
-
-ordered-fine : (track : Track) (o : Option (List Section)) (performance : Performance) → ordered track o ≡ fine performance
-    → (sections : List Section) × (o ≡ some sections) × (_≡_ {A = Performance} (record { track = track; tune = tuneIn track sections }) performance)
-unfolding ordered
-ordered-fine track none performance e = let z : _≡_ {A = ℕ} 0 1 = cc in absurd (omega arith)
-ordered-fine track (some sections) performance e = (sections, refl, cc)
-
 performance-writable : (buffer : List ℕ) (n row : ℕ) (performance : Performance) → ((k : ℕ) → buffer ! k < 256) → performed buffer n row ≡ fine performance
     → WritableTune (performance .track .voice) (retold (contentOf (performance .track .body)) (performance .tune))
-unfolding performed
 performance-writable buffer n row performance bytes e =
-    let file = bind-fine _ _ performance e in
-    let track = bind-fine _ _ performance (file .2) in
-    let order = ordered-fine (track .0) (playOrder (track .0)) performance (track .2) in
-    let there = named-fine (trackAt (file .0) row) (track .0) (track .1) in
-    subst (λ (p : Performance). WritableTune (p .track .voice) (retold (contentOf (p .track .body)) (p .tune))) (order .2)
-    (tune-writable (track .0) (order .0) (named-reads buffer n row (file .0) (track .0) bytes (file .1) there) (order .1))
+    let so = performed-so buffer n row performance e in
+    subst (λ (p : Performance). WritableTune (p .track .voice) (retold (contentOf (p .track .body)) (p .tune))) (sym (so .is))
+    (tune-writable (so .track) (so .sections) (named-reads buffer n row (so .file) (so .track) bytes (so .reads) (so .names)) (so .orders))
 
 -- THE PLAIN FORM of a performance: its items, its last four bytes, that the items are what was written, that as a stream without points
 -- they play the same tune, and that flattening it again gives it.

@@ -1,4 +1,4 @@
--- The bodies of a readable track: what a track is made of, and that the bodies that are found in its list are its own.
+-- The bodies of a readable track: those that are found in its list are its own.
 use Prim.Native.Nat.{ℕ, _+_, _<_, _≤_}
 use mathlib.Core.Path.{_≡_, refl, sym, _∙_, ap, subst}
 use mathlib.Core.Bool.{Bool, true, false}
@@ -23,62 +23,15 @@ use Rattle.model.specs.declared.FoundChunk.the-variants.{At, Nowhere}
 use Rattle.model.specs.declared.Bodies.{Bodies}
 use Rattle.model.specs.declared.Extent.{Extent}
 use Rattle.model.specs.declared.OpenedTrack.the-variants as opened
+use Rattle.model.proofs.Parts.{part-short}
+use Rattle.model.proofs.Outcomes.{then-fine, bind-fine, fine-some, counted-fine}
 use Rattle.chunks.specs.Kept.{chunksIn}
 use Rattle.model.proofs.Tests.{by-test, if-true, if-false}
 use Rattle.tracks.proofs.Stages.{part-there}
 use Rattle.reading.specs.Stages.{placed}
-use Rattle.reading.proofs.OneTop.{then-fine, bind-fine, fine-some}
+use Rattle.reading.proofs.TrackMade.{TrackMade, track-made}
 use Rattle.reading.proofs.Accepted.{fixed-inside, parts-read}
 use Rattle.playing.specs.Performing.{entriesSaid, bytesIn, Open, Opens, trackIn}
-
--- WHAT A TRACK IS MADE OF
-
-required-is : (header : ℕ) (o : Option Chunk) (chunk : Chunk) → required header o ≡ fine chunk → o ≡ some chunk
-unfolding required
-required-is header none chunk e = let z : _≡_ {A = ℕ} 0 1 = cc in absurd (omega arith)
-required-is header (some one) chunk e = let same : one ≡ chunk = cc in ap some same
-
-counted-is : {A : Type 0} (base : ℕ) (c : Checked A) (a : A) → countedFrom base c ≡ fine a → c ≡ fine a
-unfolding countedFrom
-counted-is base (fine b) a e = e
-counted-is base (refused n p) a e = let z : _≡_ {A = ℕ} 0 1 = cc in absurd (omega arith)
-
-pub record Made (s : List ℕ) (voice : Voice) (chunk : Chunk) (track : Track) : Type 0 where
-  pub sequence : Chunk
-  pub named : partNamed (partId parts.Sequence voice) (track .parts) ≡ some sequence
-  pub body : track .body ≡ bodyBytes s sequence
-  pub reads : bodyOf voice (bodyBytes s sequence) ≡ fine (track .items)
-  pub entries : entriesOf (track .phrases) (track .items) (length (bodyBytes s sequence)) s (partNamed (partId parts.Seek voice) (track .parts))
-      ≡ fine (track .entries)
-  pub header : track .header ≡ chunk .place
-  pub voiced : track .voice ≡ voice
-  pub phrased : track .phrases ≡ (s ! (chunk .place + 8 + 1) ≡? 1)
-
-abbrev trackOr : Checked Track → Track → Track
-trackOr (fine track) other = track
-trackOr (refused number place) other = other
-
-pub track-made : (s : List ℕ) (voice : Voice) (chunk : Chunk) (track : Track) → trackOf s voice chunk ≡ fine track → Made s voice chunk track
-unfolding trackOf
-track-made s voice chunk track e =
-    let a = then-fine _ _ track e in
-    let b = bind-fine _ _ track (a .1) in
-    let c = bind-fine _ _ track (b .2) in
-    let d = then-fine _ _ track (c .2) in
-    let f = then-fine _ _ track (d .1) in
-    let g = bind-fine _ _ track (f .1) in
-    let h = bind-fine _ _ track (g .2) in
-    subst (Made s voice chunk) (ap (λ (t : Checked Track). trackOr t track) (h .2))
-    (record {
-      sequence = c .0;
-      named = required-is (chunk .place) _ (c .0) (c .1);
-      body = refl;
-      reads = counted-is _ _ (g .0) (g .1);
-      entries = h .1;
-      header = refl;
-      voiced = refl;
-      phrased = refl;
-    })
 
 -- THE SEEK BODY of a track, where it has one
 
@@ -112,7 +65,7 @@ sought-there : (phrases : Bool) (items : List (Placed (Item Event))) (size base 
     → countedFrom base (seekIn phrases items size seek) ≡ fine entries → Sought phrases items size seek entries
 unfolding seekIn isFine
 sought-there phrases items size base seek entries e =
-    let a = bind-fine _ _ entries (counted-is base _ entries e) in
+    let a = bind-fine _ _ entries (counted-fine base _ entries e) in
     let b = then-fine _ _ entries (a .2) in
     let last : fine (a .0) ≡ fine entries = b .1 in
     let same : a .0 ≡ entries = cc in
@@ -146,9 +99,6 @@ module _ (named : Option Chunk) (phrases : Bool) (items : List (Placed (Item Eve
       go none q k = let none-said : [] ≡ entries = cc in subst (Sought phrases items size []) none-said (sought-nowhere phrases items size)
       go (some chunk) q k = let z : _≡_ {A = ℕ} 0 1 = cc in absurd (omega arith)
 
-part-small : (s : List ℕ) (place size : ℕ) → length s ≤ 65536 → length (part s place size) ≤ 65536
-part-small s place size h = simp (length-take, length-drop) (omega arith)
-
 -- THE BODIES
 
 module _ (s : List ℕ) (voice : Voice) (place size : ℕ) (inside : place + 8 + size ≤ length s) (small : length s ≤ 65536)
@@ -156,7 +106,7 @@ module _ (s : List ℕ) (voice : Voice) (place size : ℕ) (inside : place + 8 +
   the-track : (track : Track) × (trackOf s voice (placed s place size) ≡ fine track)
   the-track = fine-some (trackOf s voice (placed s place size)) ok
 
-  made : Made s voice (placed s place size) (the-track .0)
+  made : TrackMade s voice (placed s place size) (the-track .0)
   made = track-made s voice (placed s place size) (the-track .0) (the-track .1)
 
   listed : chunksIn s (place + 8 + 6) (place + 8 + size) ≡ fine (the-track .0 .parts)
@@ -236,8 +186,8 @@ module _ (s : List ℕ) (voice : Voice) (place size : ℕ) (inside : place + 8 +
                     seek = there;
                     ready =
                         record {
-                          small = part-small s (at + 8) many small;
-                          few = part-small s (seek .place) (seek .size) small;
+                          small = omega (arith, part-short s (at + 8) many);
+                          few = omega (arith, part-short s (seek .place) (seek .size));
                           reads = ap isFine reads;
                           formed = sought .formed;
                           holds = ap (λ (i : List (Placed (Item Event))). pointsOf phrases i (length body) (entriesSaid phrases (bytesIn s seek))) (sym items-are) ∙ sought .holds;

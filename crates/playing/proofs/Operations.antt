@@ -4,9 +4,7 @@ use mathlib.Core.Path.{_≡_, refl, sym, _∙_, ap}
 use mathlib.Core.Bool.{Bool, true}
 use mathlib.Core.List.{List}
 use mathlib.Core.Option.{Option, none, some}
-use lib.ListN.{length, take, length-take}
-use native.Mathlib.Omega.{arith}
-use borrow.Author.Tests.{lt-ltb, le-ltb}
+use lib.ListN.{length, take}
 use Rattle.model.specs.Words.{if_then_else_, _or_, _<?_, Checked, Checked.fine, Checked.refused, passed, _>>=_, _>>_}
 use Rattle.model.specs.Item.{isFine}
 use Rattle.model.specs.Play.{Section, Tune}
@@ -24,6 +22,7 @@ use Rattle.model.specs.declared.PlayAnswer.{PlayAnswer}
 use Rattle.model.specs.declared.PlayAnswer.the-variants as play
 use Rattle.model.proofs.Tests.{by-test}
 use Rattle.reading.specs.Stages.{fileAnswer}
+use Rattle.reading.proofs.Stated.{stated-past, stated-over, stated-within, stated-small}
 use Rattle.playing.specs.Performing.{Ready, bytesIn, Inside, Open, Opens, trackNamed, fitted, played, heard, rowPerformed, rowPlayed}
 use Rattle.playing.proofs.Played.{refused-answer, refused-steps, refused-words}
 use Rattle.playing.proofs.RowPerformed.{stated-fine, stated-refused, opened-track, row-inside, no-track}
@@ -152,22 +151,18 @@ pub ruleset stated-played = (stated-fine, stated-answer, stated-steps, stated-wo
 
 -- THE BUFFER
 
-play-is : (buffer : List ℕ) (n row room : ℕ) → playOf buffer n row room ≡ rowPlayed room (fileOf buffer n) row
+play-is : (buffer : List ℕ) (n row room : ℕ) (c : Checked File) → fileOf buffer n ≡ c → playOf buffer n row room ≡ rowPlayed room c row
 unfolding playOf performed rowPlayed rowPerformed
-play-is buffer n row room = refl
+play-is buffer n row room c e = ap (λ (x : Checked File). rowPlayed room x row) e
 
 module _ (buffer : List ℕ) (n row room : ℕ) where
-  unstated : ((length buffer <? n) or (65536 <? n)) ≡ true → playOf buffer n row room ≡ refused 1 0
-  unfolding fileOf rowPlayed rowPerformed _>>=_ _>>_ if_then_else_
-  unstated h = play-is buffer n row room ∙ rw h
-
   past : length buffer < n → playOf buffer n row room ≡ refused 1 0
-  unfolding _or_
-  past h = unstated (simp lt-ltb)
+  unfolding rowPlayed rowPerformed _>>=_
+  past h = play-is buffer n row room (refused 1 0) (stated-past buffer n h)
 
   over : n ≤ length buffer → 65536 < n → playOf buffer n row room ≡ refused 1 0
-  unfolding _or_
-  over h k = unstated (simp (le-ltb, lt-ltb))
+  unfolding rowPlayed rowPerformed _>>=_
+  over h k = play-is buffer n row room (refused 1 0) (stated-over buffer n h k)
 
   pub past-answer : length buffer < n → play.Refused 1 0 ≡ playAnswer (playOf buffer n row room)
   past-answer h = refused-answer _ 1 0 (past h)
@@ -189,11 +184,7 @@ module _ (buffer : List ℕ) (n row room : ℕ) where
 
   module _ (h : n ≤ length buffer) (k : n ≤ 65536) where
     within : rowPlayed room (contentsOf (take n buffer)) row ≡ playOf buffer n row room
-    unfolding fileOf _>>_ if_then_else_ _or_
-    within = sym (play-is buffer n row room ∙ simp le-ltb)
-
-    pub whole-small : length (take n buffer) ≤ 65536
-    whole-small = simp length-take (omega arith)
+    within = sym (play-is buffer n row room (contentsOf (take n buffer)) (stated-within buffer n h k))
 
     pub whole-answer : (r : PlayAnswer) → r ≡ playAnswer (rowPlayed room (contentsOf (take n buffer)) row) → r ≡ playAnswer (playOf buffer n row room)
     whole-answer = same-answer _ _ within
@@ -204,4 +195,4 @@ module _ (buffer : List ℕ) (n row room : ℕ) where
     pub whole-words : (l m : List ℕ) → m ≡ wordsTable l (rowPlayed room (contentsOf (take n buffer)) row) → m ≡ wordsTable l (playOf buffer n row room)
     whole-words = same-words _ _ within
 
-pub ruleset buffers-played = (past-answer, past-steps, past-words, over-answer, over-steps, over-words, whole-small, whole-answer, whole-steps, whole-words)
+pub ruleset buffers-played = (past-answer, past-steps, past-words, over-answer, over-steps, over-words, stated-small, whole-answer, whole-steps, whole-words)

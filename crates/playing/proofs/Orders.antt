@@ -19,6 +19,7 @@ use Rattle.model.specs.Track.{pointWidth, pointsOf}
 use Rattle.model.specs.declared.Voice.{Voice}
 use Rattle.model.specs.declared.Event.{Event}
 use Rattle.model.specs.declared.Points.{Points}
+use Rattle.model.proofs.Parts.{part-at}
 use Rattle.model.proofs.Tests.{by-test, if-true, if-false}
 use Rattle.seek.proofs.Standing.{allEntries}
 use Rattle.seek.proofs.Naming.{Ordered, ordered}
@@ -48,9 +49,6 @@ pub part-of-part : (s : List ℕ) (place many from size : ℕ) → from + size �
 part-of-part s place many from size h =
     ap (take size) (drop-of-take from many (drop place s)) ∙ take-take size (many - from) (drop from (drop place s)) (omega arith)
     ∙ ap (take size) (drop-drop from place s)
-
-part-at : (s : List ℕ) (from size i : ℕ) → i < size → part s from size ! i ≡ s ! (from + i)
-part-at s from size i h = getD-take size (drop from s) i 0 h ∙ getD-drop from s i 0
 
 some-list : (o : Option (List ℕ)) → isSome o ≡ true → o ≡ some (o otherwise [])
 unfolding isSome _otherwise_

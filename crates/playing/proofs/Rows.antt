@@ -19,8 +19,8 @@ use Rattle.model.specs.declared.FoundTrack.{FoundTrack}
 use Rattle.model.specs.declared.FoundTrack.the-variants as found
 use Rattle.model.specs.declared.OpenedTrack.{OpenedTrack}
 use Rattle.model.specs.declared.OpenedTrack.the-variants as opened
+use Rattle.model.proofs.Outcomes.{fine-some}
 use Rattle.reading.specs.Stages.{placed, topsOf, topAt, foundTrack}
-use Rattle.reading.proofs.OneTop.{fine-some}
 use Rattle.reading.proofs.Finding.{found-at, found-nowhere}
 use Rattle.playing.specs.Performing.{Opens, trackIn, trackNamed, lastPosition, Listed}
 

@@ -18,12 +18,13 @@ use Rattle.model.specs.declared.ListOf.the-variants as list
 use Rattle.model.specs.declared.Voice.{Voice}
 use Rattle.model.specs.declared.ReadChunk.{ReadChunk}
 use Rattle.model.specs.declared.ReadChunk.the-variants.{Is, Cut}
+use Rattle.model.proofs.Outcomes.{then-fine, bind-fine}
 use Rattle.model.proofs.Walks.{Stand}
 use Rattle.chunks.specs.Kept.{chunksIn}
 use Rattle.chunks.proofs.Lists.{ChunkAhead, chunk-ahead}
 use Rattle.chunks.proofs.Searches.{list-stands, checked-chunks}
 use Rattle.reading.specs.Stages.{placed}
-use Rattle.reading.proofs.OneTop.{then-fine, bind-fine, track-parts}
+use Rattle.reading.proofs.TrackMade.{track-made}
 use Rattle.reading.proofs.Files.{long-enough, frame-chunks}
 
 -- a test that can refuse, and did not
@@ -167,12 +168,12 @@ opened-as s chunk top e = let a = bind-fine _ _ top e in opened-so s chunk (a .0
 module _ (s : List ℕ) (voice : Voice) (chunk : Chunk) (track : Track) (e : trackOf s voice chunk ≡ fine track) where
   pub fixed-inside : 6 ≤ chunk .size
   unfolding fixedHolds
-  fixed-inside = ltb-false (chunk .size) 6 (not-refused (chunk .size <? 6) 8 (chunk .place + 8) _ (track-parts s voice chunk track e .0))
+  fixed-inside = ltb-false (chunk .size) 6 (not-refused (chunk .size <? 6) 8 (chunk .place + 8) _ (track-made s voice chunk track e .fixed))
 
   pub parts-read : chunksIn s (chunk .place + 8 + 6) (chunk .place + 8 + chunk .size) ≡ fine (track .parts)
   parts-read =
       checked-chunks (isAllowed (list.Track voice)) s (chunk .place + 8 + 6) (chunk .place + 8 + chunk .size) (track .parts)
-      (let h = fixed-inside in omega arith) (track-parts s voice chunk track e .1)
+      (let h = fixed-inside in omega arith) (track-made s voice chunk track e .listed)
 
   pub parts-stand : Stand (chunk .place + 8 + chunk .size) (chunkStep s (chunk .place + 8 + chunk .size)) (chunk .place + 8 + 6) (track .parts)
   parts-stand = read-stand s (chunk .place + 8 + 6) (chunk .place + 8 + chunk .size) (track .parts) (let h = fixed-inside in omega arith) parts-read

@@ -14,14 +14,12 @@ use Rattle.model.specs.Chunk.{Chunk, chunkAt}
 use Rattle.model.specs.File.{File, Top, Row, topOf, contentsOf, rowIn, rowsFrom, rowsOf, numbersOf}
 use Rattle.model.specs.Answer.{readAnswer}
 use Rattle.model.specs.declared.ReadAnswer.the-variants as read
+use Rattle.model.proofs.Outcomes.{fine-some}
+use Rattle.model.proofs.Parts.{front-length}
 use Rattle.chunks.specs.Kept.{chunksIn}
 use Rattle.model.proofs.Stores.{sets-append}
 use Rattle.reading.specs.Stages.{rowNumbers, fileRows}
-use Rattle.reading.proofs.OneTop.{fine-some}
 use Rattle.reading.proofs.Accepted.{Made, contents-made}
-
-pub front-length : (s : List ℕ) (n : ℕ) → n ≤ length s → n ≡ length (take n s)
-front-length s n h = sym (simp length-take (omega arith))
 
 module _ (s : List ℕ) (ok : isFine (contentsOf s) ≡ true) where
   accepted : (file : File) × (contentsOf s ≡ fine file)

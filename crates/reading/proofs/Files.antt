@@ -19,12 +19,12 @@ use Rattle.model.specs.declared.Check.{Check}
 use Rattle.model.specs.declared.Check.the-variants as check
 use Rattle.model.specs.declared.Counted.{Counted}
 use Rattle.model.specs.declared.Counted.the-variants as counted
+use Rattle.model.proofs.Outcomes.{then-fine, bind-fine, fine-some}
 use Rattle.chunks.specs.Kept.{chunksIn}
 use Rattle.chunks.proofs.Searches.{checked-chunks}
 use Rattle.model.proofs.Answers.{answer-refused, answer-passed}
 use Rattle.model.proofs.Tests.{by-test, if-true, first-true}
 use Rattle.reading.specs.Stages.{contentsHold, topRows, topsRows, topsAnswer, fileAnswer, Countable}
-use Rattle.reading.proofs.OneTop.{then-fine, bind-fine, fine-some}
 
 -- a frame that passes
 

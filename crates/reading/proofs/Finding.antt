@@ -23,13 +23,15 @@ use Rattle.model.specs.declared.FoundTrack.the-variants.{At, Nowhere}
 use Rattle.model.specs.declared.ReadChunk.{ReadChunk}
 use Rattle.model.specs.declared.ReadChunk.the-variants.{Is, Cut}
 use Rattle.model.specs.declared.Counted.the-variants as counted
+use Rattle.model.proofs.Outcomes.{bind-fine, fine-some}
 use Rattle.model.proofs.Tests.{by-test, if-true, if-false}
 use Rattle.model.proofs.Walks.{Stand}
 use Rattle.chunks.specs.Kept.{chunksIn}
 use Rattle.chunks.proofs.Lists.{ChunkAhead, chunk-ahead}
 use Rattle.chunks.proofs.Searches.{none-left, never-cut, first-left}
 use Rattle.reading.specs.Stages.{placed, voiceAnswer, topRows, topAnswer, topsOf, topAt, foundTop, foundTrack}
-use Rattle.reading.proofs.OneTop.{fine-some, bind-fine, track-parts, voice-is-refused, voice-is-closed, voice-is-opened, top-closed}
+use Rattle.reading.proofs.TrackMade.{track-made}
+use Rattle.reading.proofs.OneTop.{voice-is-refused, voice-is-closed, voice-is-opened, top-closed}
 use Rattle.reading.proofs.Accepted.{contents-made, stands-first, each-fine, each-none, OpenedAs, opened-as, fixed-inside, parts-read}
 
 -- A CHUNK of the top level that passed its check
@@ -100,7 +102,7 @@ module _ (s : List ℕ) (place size : ℕ) (ok : isFine (topOf s (placed s place
   unfolding foundTrack foundTop
   track-opened v e =
       let t = a-track v e in
-      sym (ap (λ (w : Voice). At w place size) (track-parts s v (placed s place size) (t .0) (t .1) .2))
+      sym (ap (λ (w : Voice). At w place size) (track-made s v (placed s place size) (t .0) (t .1) .voiced))
       ∙ sym (ap (λ (c : Checked Top). foundTrack (foundTop c)) (t .2))
 
 pub ruleset row-counts = (rows-refused, rows-closed, rows-opened)
@@ -275,7 +277,7 @@ same-track s v w place size p n chunk track both there e =
     let voice-is : v ≡ track .voice = cc in
     let place-is : place ≡ chunk .place = cc in
     let size-is : size ≡ chunk .size = cc in
-    let voices : v ≡ w = voice-is ∙ track-parts s w (placed s p n) track e .2 in
+    let voices : v ≡ w = voice-is ∙ track-made s w (placed s p n) track e .voiced in
     let places : place ≡ p = place-is ∙ ap (λ (c : Chunk). c .place) there in
     let sizes : size ≡ n = size-is ∙ ap (λ (c : Chunk). c .size) there in
     (rw (voices, places, sizes) e, places, sizes)

@@ -1,4 +1,5 @@
 pub mod Frames
+pub mod TrackMade
 pub mod OneTop
 pub mod AllTops
 pub mod Files
@@ -6,8 +7,11 @@ pub mod Filling
 pub mod TopRows
 pub mod AllRows
 pub mod FileRows
+pub mod Stated
 pub mod Whole
 pub mod Accepted
+pub mod FileRefusals
+pub mod Performed
 pub mod Tiling
 pub mod Finding
 pub mod OneResult

@@ -27,10 +27,12 @@ use Rattle.model.specs.declared.Check.{Check}
 use Rattle.model.specs.declared.Check.the-variants as check
 use Rattle.model.specs.declared.Counted.{Counted}
 use Rattle.model.specs.declared.Counted.the-variants as counted
+use Rattle.model.proofs.Outcomes.{fine-some}
 use Rattle.tracks.specs.Stages.{bare}
 use Rattle.model.proofs.Answers.{answer-refused, answer-passed}
 use Rattle.tracks.proofs.Stages.{fixed-room}
 use Rattle.reading.specs.Stages.{placed, voiceAnswer, topRows, topAnswer, Few}
+use Rattle.reading.proofs.TrackMade.{track-made}
 
 module _ (b : Bool) (x y : Checked (Option Voice)) (z : FoundVoice) where
   pub voice-yes : b ≡ true → z ≡ voiceAnswer x → z ≡ voiceAnswer (if b then x else y)
@@ -103,53 +105,6 @@ module _ (s : List ℕ) (start end count at : ℕ) (c : Counting s start end cou
 
 pub ruleset countings = (count-starts, count-ends, count-low, count-never, count-nears, count-turns)
 
--- what a row of checks that passes has passed
-
-pub then-fine : {A B : Type 0} (c : Checked A) (rest : Checked B) (b : B) → (c >> rest) ≡ fine b → isFine c ≡ true × (rest ≡ fine b)
-unfolding _>>_ isFine
-then-fine (fine a) rest b e = (refl, e)
-then-fine (refused n p) rest b e = let z : _≡_ {A = ℕ} 0 1 = cc in absurd (omega arith)
-
-pub fine-some : {A : Type 0} (c : Checked A) → isFine c ≡ true → (a : A) × (c ≡ fine a)
-unfolding isFine
-fine-some (fine a) h = (a, refl)
-fine-some (refused n p) h = absurd (false≢true h)
-
-pub bind-fine : {A B : Type 0} (c : Checked A) (rest : A → Checked B) (b : B) → (c >>= rest) ≡ fine b → (a : A) × (c ≡ fine a) × (rest a ≡ fine b)
-unfolding _>>=_
-bind-fine (fine a) rest b e = (a, refl, e)
-bind-fine (refused n p) rest b e = let z : _≡_ {A = ℕ} 0 1 = cc in absurd (omega arith)
-
--- the sub-chunks of a track are those of its list, its voice is the one it was opened in, and its time base D stands at its place
-
-abbrev partsIn : Checked Track → List Chunk
-partsIn (fine track) = track .parts
-partsIn (refused number place) = []
-
-abbrev voiceIn : Voice → Checked Track → Voice
-voiceIn other (fine track) = track .voice
-voiceIn other (refused number place) = other
-
-abbrev baseIn : Checked Track → ℕ
-baseIn (fine track) = track .baseD
-baseIn (refused number place) = 0
-
-pub track-parts : (s : List ℕ) (voice : Voice) (chunk : Chunk) (track : Track) → trackOf s voice chunk ≡ fine track
-    → (isFine (fixedHolds voice s chunk) ≡ true)
-    × (chunkList (isAllowed (list.Track voice)) s (chunk .place + 8 + 6) (chunk .place + 8 + chunk .size) ≡ fine (track .parts))
-    × (track .voice ≡ voice)
-    × (track .baseD ≡ s ! (chunk .place + 8 + placeOfD voice))
-unfolding trackOf
-track-parts s voice chunk track e =
-    let a = then-fine _ _ track e in
-    let b = bind-fine _ _ track (a .1) in
-    let c = bind-fine _ _ track (b .2) in
-    let d = then-fine _ _ track (c .2) in
-    let f = then-fine _ _ track (d .1) in
-    let g = bind-fine _ _ track (f .1) in
-    let h = bind-fine _ _ track (g .2) in
-    (a .0, b .1 ∙ ap fine (ap partsIn (h .2)), sym (ap (voiceIn voice) (h .2)), sym (ap baseIn (h .2)))
-
 -- a track that is opened, and how many rows it brings
 
 pub passes : {A : Type 0} (a : A) → checkAnswer (fine a) ≡ check.Passed
@@ -175,7 +130,7 @@ module _ (s : List ℕ) (voice : Voice) (place size : ℕ) (r : Check) (is : r �
     pub opened-room : 6 ≤ size
     unfolding fixedHolds
     opened-room =
-        let f = fine-some (fixedHolds voice s (bare place size)) (track-parts s voice (placed s place size) (a-track e .0) (a-track e .1) .0) in
+        let f = fine-some (fixedHolds voice s (bare place size)) (track-made s voice (placed s place size) (a-track e .0) (a-track e .1) .fixed) in
         fixed-room voice s place size (checkAnswer (fixedHolds voice s (bare place size))) refl (ap checkAnswer (f .1) ∙ passes (f .0))
 
     pub opened-from : place + 8 + 6 ≤ place + 8 + size
@@ -184,7 +139,7 @@ module _ (s : List ℕ) (voice : Voice) (place size : ℕ) (r : Check) (is : r �
     pub listed-parts : chunksIn s (place + 8 + 6) (place + 8 + size) ≡ fine (a-track e .0 .parts)
     listed-parts =
         checked-chunks (isAllowed (list.Track voice)) s (place + 8 + 6) (place + 8 + size) _ (let h = opened-room in omega arith)
-        (track-parts s voice (placed s place size) (a-track e .0) (a-track e .1) .1)
+        (track-made s voice (placed s place size) (a-track e .0) (a-track e .1) .listed)
 
     pub opened-fine : isFine (chunksIn s (place + 8 + 6) (place + 8 + size)) ≡ true
     unfolding isFine

@@ -17,13 +17,14 @@ use Rattle.model.specs.declared.Voice.{Voice}
 use Rattle.model.specs.declared.Check.the-variants as check
 use Rattle.model.specs.declared.FoundVoice.{FoundVoice}
 use Rattle.model.specs.declared.FoundVoice.the-variants as voice
+use Rattle.model.proofs.Outcomes.{bind-fine, fine-some}
 use Rattle.chunks.specs.Kept.{chunksIn}
 use Rattle.tracks.specs.Stages.{bare}
 use Rattle.model.proofs.Walks.{GoesOn, Stand}
 use Rattle.chunks.proofs.Lists.{chunk-goes}
 use Rattle.chunks.proofs.Searches.{list-stands}
 use Rattle.reading.specs.Stages.{placed, rowNumbers, voiceAnswer, partsBy}
-use Rattle.reading.proofs.OneTop.{fine-some, bind-fine, passes, id-free, opened-from, opened-fine, a-track, listed-parts, voice-is-opened, voice-is-closed, voice-is-refused}
+use Rattle.reading.proofs.OneTop.{passes, id-free, opened-from, opened-fine, a-track, listed-parts, voice-is-opened, voice-is-closed, voice-is-refused}
 use Rattle.reading.proofs.Filling.{row-first}
 
 module _ (s : List ℕ) (place size : ℕ) (ok : isFine (topOf s (placed s place size)) ≡ true)

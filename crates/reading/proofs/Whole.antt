@@ -3,12 +3,12 @@ use Prim.Native.Nat.{ℕ, _+_, _*_, _/_, _<_, _≤_}
 use mathlib.Core.Path.{_≡_, refl, sym, _∙_, ap}
 use mathlib.Core.Bool.{true, false≢true}
 use mathlib.Core.List.{List, _++_}
-use lib.ListN.{length, take, drop, length-take}
+use lib.ListN.{length, take, drop}
 use lib.Seq.{sets, sets-eq}
 use native.Mathlib.Nat.{zero-add}
 use native.Mathlib.Omega.{arith}
 use borrow.Author.Tests.{lt-ltb, le-ltb}
-use Rattle.model.specs.Words.{if_then_else_, _or_, _<?_, Checked, Checked.fine, Checked.refused, _>>=_, _>>_}
+use Rattle.model.specs.Words.{if_then_else_, Checked, Checked.fine, Checked.refused, _>>=_, _>>_}
 use Rattle.model.specs.Item.{isFine}
 use Rattle.model.specs.File.{File, contentsOf, fileOf, rowsOf, numbersOf}
 use Rattle.model.specs.Answer.{writtenOver, memoryAfter, readOf, readAnswer, readTable}
@@ -17,6 +17,7 @@ use Rattle.model.specs.declared.ReadAnswer.the-variants as read
 use Rattle.model.specs.declared.Counted.{Counted}
 use Rattle.model.specs.declared.Counted.the-variants as counted
 use Rattle.reading.proofs.Filling.{numbers-many}
+use Rattle.reading.proofs.Stated.{stated-past, stated-over, stated-within, stated-small}
 use Rattle.reading.specs.Stages.{fileAnswer, fileRows, withRoom}
 
 -- a refusal answers its number and place, and keeps the table
@@ -103,22 +104,18 @@ pub ruleset stated = (stated-refused, stated-kept, stated-short, stated-short-ke
 
 -- the whole buffer: 1, then what is stated
 
-unstated : (buffer : List ℕ) (n room : ℕ) → ((length buffer <? n) or (65536 <? n)) ≡ true → readOf buffer n room ≡ refused 1 0
-unfolding readOf fileOf _>>=_ _>>_ if_then_else_
-unstated buffer n room h = rw h
-
-within : (buffer : List ℕ) (n room : ℕ) → n ≤ length buffer → n ≤ 65536 → readOf buffer n room ≡ withRoom room (contentsOf (take n buffer))
-unfolding readOf fileOf withRoom _>>_ if_then_else_ _or_
-within buffer n room h k = simp le-ltb
+read-is : (buffer : List ℕ) (n room : ℕ) (c : Checked File) → fileOf buffer n ≡ c → readOf buffer n room ≡ withRoom room c
+unfolding readOf withRoom
+read-is buffer n room c e = ap (withRoom room) e
 
 module _ (buffer : List ℕ) (n : ℕ) (l : List ℕ) where
   past : length buffer < n → readOf buffer n (length l) ≡ refused 1 0
-  unfolding _or_
-  past h = unstated buffer n (length l) (simp lt-ltb)
+  unfolding withRoom _>>=_
+  past h = read-is buffer n (length l) (refused 1 0) (stated-past buffer n h)
 
   over : n ≤ length buffer → 65536 < n → readOf buffer n (length l) ≡ refused 1 0
-  unfolding _or_
-  over h k = unstated buffer n (length l) (simp (le-ltb, lt-ltb))
+  unfolding withRoom _>>=_
+  over h k = read-is buffer n (length l) (refused 1 0) (stated-over buffer n h k)
 
   pub past-refused : length buffer < n → read.Refused 1 0 ≡ readAnswer (readOf buffer n (length l))
   past-refused h = refused-answer _ 1 0 (past h)
@@ -133,13 +130,13 @@ module _ (buffer : List ℕ) (n : ℕ) (l : List ℕ) where
   over-kept h k = refused-kept l _ 1 0 (over h k)
 
   module _ (h : n ≤ length buffer) (k : n ≤ 65536) where
-    pub whole-small : length (take n buffer) ≤ 65536
-    whole-small = simp length-take (omega arith)
+    within : withRoom (length l) (contentsOf (take n buffer)) ≡ readOf buffer n (length l)
+    within = sym (read-is buffer n (length l) (contentsOf (take n buffer)) (stated-within buffer n h k))
 
     pub whole-answer : (a : ReadAnswer) → a ≡ readAnswer (withRoom (length l) (contentsOf (take n buffer))) → a ≡ readAnswer (readOf buffer n (length l))
-    whole-answer a e = e ∙ ap readAnswer (sym (within buffer n (length l) h k))
+    whole-answer a e = e ∙ ap readAnswer within
 
     pub whole-table : (m : List ℕ) → m ≡ readTable l (withRoom (length l) (contentsOf (take n buffer))) → m ≡ readTable l (readOf buffer n (length l))
-    whole-table m e = e ∙ ap (readTable l) (sym (within buffer n (length l) h k))
+    whole-table m e = e ∙ ap (readTable l) within
 
-pub ruleset whole = (past-refused, past-kept, over-refused, over-kept, whole-small, whole-answer, whole-table)
+pub ruleset whole = (past-refused, past-kept, over-refused, over-kept, stated-small, whole-answer, whole-table)

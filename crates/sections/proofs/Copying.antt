@@ -9,6 +9,7 @@ use native.Mathlib.Omega.{arith}
 use mir.Syntax.{w64}
 use mir.Val.{Fits}
 use Rattle.model.specs.Bytes.{_!_, part}
+use Rattle.model.proofs.Parts.{part-length, part-at}
 use Rattle.sections.specs.Again.{later, AllFit}
 
 -- so many numbers are stored from a place on
@@ -43,12 +44,6 @@ module _ (l out numbers : List ℕ) (at i : ℕ) (c : Copying l out numbers at i
       ap (sets out (at + i)) (sym (ap (λ (n : ℕ). drop n numbers) end ∙ drop-length numbers)) ∙ c .rest
 
 -- a part, its length and its elements
-pub part-length : (l : List ℕ) (from count : ℕ) → from + count ≤ length l → length (part l from count) ≡ count
-part-length l from count h = simp (length-take, length-drop) (omega arith)
-
-part-at : (l : List ℕ) (from count i : ℕ) → i < count → part l from count ! i ≡ l ! (from + i)
-part-at l from count i h = getD-take count (drop from l) i 0 h ∙ getD-drop from l i 0
-
 later-length : (more : ℕ) (steps : List ℕ) → length (later more steps) ≡ length steps
 unfolding later
 later-length more steps = length-map steps (λ step. step + more)

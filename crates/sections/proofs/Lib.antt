@@ -8,6 +8,7 @@ pub mod Nearing
 pub mod Spanning
 pub mod Small
 pub mod Steps
+pub mod WholeStream
 pub mod Tunes
 pub mod Throughout
 pub mod Lengths

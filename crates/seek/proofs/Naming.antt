@@ -22,6 +22,7 @@ use Rattle.model.specs.declared.Points.{Points}
 use Rattle.model.specs.declared.Check.the-variants as check
 use Rattle.model.specs.declared.ReadEntry.{ReadEntry}
 use Rattle.model.specs.declared.ReadEntry.the-variants.{Start, Stop, Phrase, Order, Refused}
+use Rattle.model.proofs.Parts.{part-length}
 use Rattle.model.proofs.Tests.{by-test, if-true, if-false, flag-on, flag-off}
 use Rattle.seek.specs.Next.{isRefused, endOf, nextAt}
 use Rattle.seek.specs.Rules.{marked, Named}
@@ -29,7 +30,6 @@ use Rattle.seek.proofs.Ahead.{entryOf, placed}
 use Rattle.seek.proofs.Letters.{or-none}
 use Rattle.seek.proofs.Ordering.{none-flagged}
 use Rattle.seek.proofs.Standing.{Entries, allEntries, Without, Met, Walking, walk-starts, walk-ends, walk-nears, walk-turns, walk-all, later}
-use Rattle.seek.proofs.Saying.{part-length}
 use Rattle.seek.proofs.Holding.{all-go-on}
 
 -- FLAGS

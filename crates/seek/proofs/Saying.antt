@@ -17,6 +17,7 @@ use Rattle.model.specs.declared.FoundPhrase.{FoundPhrase}
 use Rattle.model.specs.declared.FoundPhrase.the-variants.{Between, Nowhere}
 use Rattle.model.specs.declared.ReadEntry.{ReadEntry}
 use Rattle.model.specs.declared.ReadEntry.the-variants.{Start, Stop, Phrase, Order, Refused}
+use Rattle.model.proofs.Parts.{part-length}
 use Rattle.model.proofs.Tests.{by-test}
 use Rattle.seek.specs.Next.{isRefused, endOf, nextAt}
 use Rattle.seek.specs.Said.{nothing, noted, phraseNamed}
@@ -112,9 +113,6 @@ said-starts entries = simp (flag-none, letters-none)
 said-ends : (points : Points) → saidOver points [] ≡ points
 unfolding saidOver over startPoint stopPoint orderList orderPlace firstSaid flagOr lettersOr _otherwise_
 said-ends points = refl
-
-pub part-length : (s : List ℕ) (place size : ℕ) → place + size ≤ length s → length (part s place size) ≡ size
-part-length s place size h = simp (length-take, length-drop) (omega arith)
 
 -- an entry adds what it says, since no later one says it again
 said-turns : (s : List ℕ) (at : ℕ) (points : Points) (entry : ReadEntry) (rest : Entries) → Met s at entry rest

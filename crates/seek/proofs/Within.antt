@@ -15,6 +15,7 @@ use Rattle.model.specs.Track.{pointWidth, pointsOf}
 use Rattle.model.specs.declared.Event.{Event}
 use Rattle.model.specs.declared.ReadEntry.{ReadEntry}
 use Rattle.model.specs.declared.ReadEntry.the-variants.{Start, Stop, Phrase, Order, Refused}
+use Rattle.model.proofs.Parts.{part-short}
 use Rattle.model.proofs.Tests.{if-all, if-true, if-false, by-test}
 use Rattle.model.proofs.Walks.{Stand, GoesOn, refused-within}
 use Rattle.seek.proofs.Ahead.{entry-goes}
@@ -35,9 +36,6 @@ followed-at : (s : List ℕ) (at next : ℕ) (entry : Entry) → LettersIn s ent
 unfolding followed
 followed-at s at next entry h =
     if-all (AtPlace s at) _ _ _ (λ i. (refl, h)) (λ i. if-all (AtPlace s at) _ _ _ (λ j. (refl, h)) (λ j. refl))
-
-part-short : (s : List ℕ) (at count : ℕ) → length (part s at count) ≤ length s
-part-short s at count = simp (length-take, length-drop) (omega arith)
 
 entry-met-at : (s : List ℕ) (at : ℕ) (entry : ReadEntry) → AtPlace s at (entryMet s at entry)
 unfolding entryMet

@@ -18,12 +18,12 @@ use Rattle.model.specs.declared.ReadBody.{ReadBody}
 use Rattle.model.specs.declared.ReadBody.the-variants as body
 use Rattle.model.specs.declared.FoundChunk.{FoundChunk}
 use Rattle.model.specs.declared.FoundChunk.the-variants.{At, Nowhere}
+use Rattle.model.proofs.Parts.{part-within}
 use Rattle.tracks.specs.Stages.{bareOf, Inside, Near, moved}
 use Rattle.model.proofs.Answers.{answer-refused, answer-passed, bind-passed, bind-refused}
 use Rattle.items.proofs.Within.{body-refused-within}
 use Rattle.seek.proofs.Within.{form-refused-within, points-refused-within}
 use Rattle.tracks.proofs.Answers.{answer-moved, answer-near}
-use Rattle.tracks.proofs.Parts.{part-length}
 
 abbrev Items : Type 0
 Items = List (Placed (Item Event))
@@ -54,7 +54,7 @@ module _ (s : List ℕ) (place size : ℕ) (room : place + 8 + size ≤ length s
   sequence-low = omega arith
 
   pub sequence-small : (bytes : List ℕ) → bytes ≡ part s (place + 8) size → length bytes ≤ 65536
-  sequence-small bytes b = let short = part-length s (place + 8) size room in omega (arith, ap length b)
+  sequence-small bytes b = let short = part-within s (place + 8) size in omega (arith, ap length b)
 
   pub sequence-near : (voice : Voice) (bytes : List ℕ) (r : Check) → bytes ≡ part s (place + 8) size → r ≡ checkAnswer (bodyOf voice bytes) → Near r
   sequence-near voice bytes r b e =

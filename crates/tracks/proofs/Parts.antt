@@ -26,6 +26,7 @@ use Rattle.model.specs.declared.Check.{Check}
 use Rattle.model.specs.declared.Check.the-variants as check
 use Rattle.model.specs.declared.FoundChunk.{FoundChunk}
 use Rattle.model.specs.declared.FoundChunk.the-variants.{At, Nowhere}
+use Rattle.model.proofs.Parts.{part-within}
 use Rattle.tracks.specs.Stages.{bare, bareOf, Inside, Near, moved}
 use Rattle.items.proofs.Within.{setup-refused-within}
 use Rattle.tracks.proofs.Answers.{answer-moved, answer-done, answer-near}
@@ -103,9 +104,6 @@ cut-out s place size = let e : place + 8 + size - (place + 8) ≡ size = omega a
 
 -- a setup chunk
 
-pub part-length : (s : List ℕ) (place size : ℕ) → place + size ≤ length s → length (part s place size) ≤ size
-part-length s place size h = simp length-take (omega arith)
-
 module _ (s : List ℕ) (setup : FoundChunk) (place size : ℕ) (is : setup ≡ At place size) where
   pub chunk-inside : Inside s setup → place + 8 + size ≤ length s
   chunk-inside h = subst (Inside s) is h
@@ -119,7 +117,7 @@ module _ (s : List ℕ) (setup : FoundChunk) (place size : ℕ) (is : setup ≡ 
   pub setup-near : (body : List ℕ) (r : Check) → body ≡ part s (place + 8) size → r ≡ checkAnswer (setupOf body) → Inside s setup → length s ≤ 65536 → Near r
   setup-near body r b e inside small =
       let room = chunk-inside inside in
-      let short = part-length s (place + 8) size room in
+      let short = part-within s (place + 8) size in
       answer-near (setupOf body) r (length body) e (omega (arith, ap length b)) (setup-refused-within body)
 
   pub setup-checked : (body : List ℕ) (r z : Check) → body ≡ part s (place + 8) size → r ≡ checkAnswer (setupOf body) → z ≡ moved (place + 8) r

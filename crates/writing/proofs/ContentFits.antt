@@ -15,9 +15,9 @@ use Rattle.model.specs.Writing.{eventFits, contentFits}
 use Rattle.model.specs.declared.Voice.{Voice}
 use Rattle.model.specs.declared.Event.{Event}
 use Rattle.model.specs.declared.Event.the-variants.{Nop, Note, Wave, Control, Exclusive}
+use Rattle.model.proofs.Parts.{part-length}
 use Rattle.model.proofs.Tests.{both-true}
 use Rattle.writing.proofs.Numbers.{is-exclusive}
-use Rattle.writing.proofs.Stores.{part-length}
 
 pub exclusive-fits : (voice : Voice) (s : List ℕ) (place size : ℕ) → 3 ≤ size → size ≤ 255 → place + 3 + size ≤ length s → s ! (place + 2 + size) ≡ 0xF7
     → contentFits voice (exclusive (part s (place + 3) size)) ≡ true

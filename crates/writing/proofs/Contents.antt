@@ -16,9 +16,9 @@ use Rattle.model.specs.Writing.{eventFits}
 use Rattle.model.specs.declared.Voice.{Voice}
 use Rattle.model.specs.declared.Event.{Event}
 use Rattle.model.specs.declared.Event.the-variants.{Nop, Note, Wave, Control, Exclusive}
+use Rattle.model.proofs.Parts.{part-length}
 use Rattle.writing.specs.Parts.{SoundFit, ControlFit, soundBytes, exclusiveBytes, eventSize}
 use Rattle.writing.proofs.Numbers.{is-note, is-wave, is-control, is-exclusive}
-use Rattle.writing.proofs.Stores.{part-length}
 use Rattle.writing.proofs.Events.{control-long, control-short}
 
 module _ (voice : Voice) (s : List ℕ) (event : Event) where

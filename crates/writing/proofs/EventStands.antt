@@ -20,13 +20,13 @@ use Rattle.model.specs.declared.ReadDuration.{ReadDuration}
 use Rattle.model.specs.declared.ReadDuration.the-variants as duration
 use Rattle.model.specs.declared.ReadEvent.{ReadEvent}
 use Rattle.model.specs.declared.ReadEvent.the-variants as event
+use Rattle.model.proofs.Parts.{part-length}
 use Rattle.model.proofs.Tests.{if-all}
 use Rattle.model.proofs.Codes.{code-back, kind-from, kind-to}
 use Rattle.writing.proofs.ContentFits.{exclusive-fits}
 use Rattle.writing.proofs.Durations.{one-byte, two-bytes}
 use Rattle.writing.proofs.Events.{control-long, control-short}
 use Rattle.writing.proofs.Stands.{Stands, part-stands}
-use Rattle.writing.proofs.Stores.{part-length}
 
 abbrev pub DurationStands : List ℕ → ℕ → ReadDuration → Type 0
 DurationStands s at (duration.Is value next) = (value ≤ 16511) × Stands s at (durationBytes value) × (next ≡ at + length (durationBytes value))

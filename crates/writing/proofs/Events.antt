@@ -15,8 +15,9 @@ use Rattle.model.specs.Duration.{durationBytes}
 use Rattle.model.specs.Content.{codeOf, controlBytes}
 use Rattle.model.specs.declared.Event.{Event}
 use Rattle.model.specs.declared.Event.the-variants.{Nop, Note, Wave, Control, Exclusive}
+use Rattle.model.proofs.Parts.{part-length}
 use Rattle.writing.specs.Parts.{ControlFit, soundBytes, exclusiveBytes, eventSize}
-use Rattle.writing.proofs.Stores.{part-length, kept-set}
+use Rattle.writing.proofs.Stores.{kept-set}
 
 -- a note or a wave: its first byte, and its gate time after it
 module _ (l : List ℕ) (at channel low gate : ℕ) where

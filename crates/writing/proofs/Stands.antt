@@ -8,7 +8,7 @@ use native.Mathlib.Nat.{add-zero}
 use native.Mathlib.Numerals.{add-one}
 use native.Mathlib.Omega.{arith}
 use Rattle.model.specs.Bytes.{_!_, part}
-use Rattle.writing.proofs.Stores.{part-cons}
+use Rattle.model.proofs.Parts.{part-cons}
 
 abbrev pub Stands : List ℕ → ℕ → List ℕ → Type 0
 Stands s at [] = Unit

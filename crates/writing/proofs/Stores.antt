@@ -7,16 +7,11 @@ use lib.Seq.{sets, drop-cons}
 use native.Mathlib.Nat.{add-zero, sub-zero}
 use native.Mathlib.Omega.{arith}
 use Rattle.model.specs.Bytes.{part}
+use Rattle.model.proofs.Parts.{part-cons}
 
 -- a callee kept the length of what a store had left
 pub kept-set : (m l : List ℕ) (at byte : ℕ) → length m ≡ length (set l at byte) → length m ≡ length l
 kept-set m l at byte h = h ∙ length-set l at byte
-
-pub part-length : (s : List ℕ) (place size : ℕ) → place + size ≤ length s → length (part s place size) ≡ size
-part-length s place size h = simp (length-take, length-drop) (omega arith)
-
-pub part-cons : (s : List ℕ) (place size : ℕ) → place < length s → part s place (suc size) ≡ getD s place 0 ∷ part s (suc place) size
-part-cons s place size h = ap (take (suc size)) (drop-cons s place 0 h)
 
 pub record Copied (l s out : List ℕ) (at from count i : ℕ) : Type 0 where
   pub in-range : i ≤ count

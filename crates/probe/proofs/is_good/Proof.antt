@@ -1,5 +1,5 @@
 -- `probe::is_good` meets its contract.
-use Rattle.text.proofs.Taken.{taken}
+use Rattle.model.proofs.Parts.{front-length}
 use borrow.Author.Needs.{needs}
 use Rattle.probe.proofs.is_good.Statement.{statement}
 use Rattle.probe.proofs.is_good.Tie as tie
@@ -29,7 +29,7 @@ slice-relend-prefix-read-full : tie.Need-slice-relend-prefix-read-full
 slice-relend-prefix-read-full c = search needs
 
 slice-aggregate-read-full : tie.Need-slice-aggregate-read-full
-slice-aggregate-read-full c = search taken
+slice-aggregate-read-full c = search front-length
 
 read-full-requires : tie.Need-read-full-requires
 read-full-requires c κs = search needs

@@ -1,5 +1,5 @@
 -- `probe::lend_to_flatten` meets its contract.
-use Rattle.text.proofs.Taken.{taken}
+use Rattle.model.proofs.Parts.{front-length}
 use borrow.Author.Needs.{needs}
 use Rattle.probe.proofs.lend_to_flatten.Statement.{statement}
 use Rattle.probe.proofs.lend_to_flatten.Tie as tie
@@ -14,13 +14,13 @@ returns : tie.Need-returns
 returns c = search needs
 
 slice-aggregate-answer-flatten : tie.Need-slice-aggregate-answer-flatten
-slice-aggregate-answer-flatten c = search (needs, taken)
+slice-aggregate-answer-flatten c = search (needs, front-length)
 
 slice-relend-prefix-answer-flatten : tie.Need-slice-relend-prefix-answer-flatten
 slice-relend-prefix-answer-flatten c = search needs
 
 slice-aggregate-answer-flatten-2 : tie.Need-slice-aggregate-answer-flatten-2
-slice-aggregate-answer-flatten-2 c = search (needs, taken)
+slice-aggregate-answer-flatten-2 c = search (needs, front-length)
 
 answer-flatten-requires : tie.Need-answer-flatten-requires
 answer-flatten-requires c κs = search needs

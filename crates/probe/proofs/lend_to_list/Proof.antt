@@ -1,5 +1,5 @@
 -- `lend_to_list` lends as much of the buffer as the case states.
-use Rattle.text.proofs.Taken.{taken}
+use Rattle.model.proofs.Parts.{front-length}
 use borrow.Author.Needs.{needs}
 use Rattle.probe.proofs.lend_to_list.Statement.{statement}
 use Rattle.probe.proofs.lend_to_list.Tie as tie
@@ -11,7 +11,7 @@ returns : tie.Need-returns
 returns c = search needs
 
 slice-aggregate-answer-list : tie.Need-slice-aggregate-answer-list
-slice-aggregate-answer-list c = search (needs, taken)
+slice-aggregate-answer-list c = search (needs, front-length)
 
 answer-list-requires : tie.Need-answer-list-requires
 answer-list-requires c κs = search needs

@@ -1,5 +1,5 @@
 -- `probe::lend_to_play` meets its contract.
-use Rattle.text.proofs.Taken.{taken}
+use Rattle.model.proofs.Parts.{front-length}
 use borrow.Author.Needs.{needs}
 use Rattle.probe.proofs.lend_to_play.Statement.{statement}
 use Rattle.probe.proofs.lend_to_play.Tie as tie
@@ -14,19 +14,19 @@ returns : tie.Need-returns
 returns c = search needs
 
 slice-aggregate-answer-play : tie.Need-slice-aggregate-answer-play
-slice-aggregate-answer-play c = search (needs, taken)
+slice-aggregate-answer-play c = search (needs, front-length)
 
 slice-relend-prefix-answer-play : tie.Need-slice-relend-prefix-answer-play
 slice-relend-prefix-answer-play c = search needs
 
 slice-aggregate-answer-play-2 : tie.Need-slice-aggregate-answer-play-2
-slice-aggregate-answer-play-2 c = search (needs, taken)
+slice-aggregate-answer-play-2 c = search (needs, front-length)
 
 slice-relend-prefix-answer-play-2 : tie.Need-slice-relend-prefix-answer-play-2
 slice-relend-prefix-answer-play-2 c = search needs
 
 slice-aggregate-answer-play-3 : tie.Need-slice-aggregate-answer-play-3
-slice-aggregate-answer-play-3 c = search (needs, taken)
+slice-aggregate-answer-play-3 c = search (needs, front-length)
 
 answer-play-requires : tie.Need-answer-play-requires
 answer-play-requires c κs = search needs

@@ -1,5 +1,5 @@
 -- `probe::lend_to_read` meets its contract.
-use Rattle.text.proofs.Taken.{taken}
+use Rattle.model.proofs.Parts.{front-length}
 use borrow.Author.Needs.{needs}
 use Rattle.probe.proofs.lend_to_read.Statement.{statement}
 use Rattle.probe.proofs.lend_to_read.Tie as tie
@@ -17,13 +17,13 @@ returns : tie.Need-returns
 returns c = search needs
 
 slice-aggregate-answer-read : tie.Need-slice-aggregate-answer-read
-slice-aggregate-answer-read c = search (needs, taken)
+slice-aggregate-answer-read c = search (needs, front-length)
 
 slice-relend-prefix-answer-read : tie.Need-slice-relend-prefix-answer-read
 slice-relend-prefix-answer-read c = search needs
 
 slice-aggregate-answer-read-2 : tie.Need-slice-aggregate-answer-read-2
-slice-aggregate-answer-read-2 c = search (needs, taken)
+slice-aggregate-answer-read-2 c = search (needs, front-length)
 
 answer-read-requires : tie.Need-answer-read-requires
 answer-read-requires c κs = search needs

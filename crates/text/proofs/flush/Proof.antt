@@ -1,5 +1,5 @@
 -- `text::flush` meets its contract.
-use Rattle.text.proofs.Taken.{taken}
+use Rattle.model.proofs.Parts.{front-length}
 use borrow.Author.Needs.{needs}
 use Rattle.text.proofs.flush.Statement.{statement}
 use Rattle.text.proofs.flush.Tie as tie
@@ -8,7 +8,7 @@ slice-reshare-prefix-write-all : tie.Need-slice-reshare-prefix-write-all
 slice-reshare-prefix-write-all c = search needs
 
 slice-aggregate-write-all : tie.Need-slice-aggregate-write-all
-slice-aggregate-write-all c = search taken
+slice-aggregate-write-all c = search front-length
 
 write-all-requires : tie.Need-write-all-requires
 write-all-requires c κs = search needs

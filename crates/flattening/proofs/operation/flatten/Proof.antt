@@ -1,5 +1,5 @@
 -- `flattening::operation::flatten` meets its contract.
-use Rattle.reading.proofs.FileRows.{front-length}
+use Rattle.model.proofs.Parts.{front-length}
 use Rattle.flattening.proofs.Operations.{buffers-flattened}
 use borrow.Author.Needs.{needs}
 use Rattle.flattening.proofs.operation.flatten.Statement.{statement}

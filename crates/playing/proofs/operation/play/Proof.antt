@@ -1,5 +1,5 @@
 -- `playing::operation::play` meets its contract.
-use Rattle.reading.proofs.FileRows.{front-length}
+use Rattle.model.proofs.Parts.{front-length}
 use Rattle.playing.proofs.Operations.{buffers-played}
 use borrow.Author.Needs.{needs}
 use Rattle.playing.proofs.operation.play.Statement.{statement}

@@ -1,5 +1,5 @@
 -- `reading::operation::read` meets its contract.
-use Rattle.reading.proofs.FileRows.{front-length}
+use Rattle.model.proofs.Parts.{front-length}
 use Rattle.reading.proofs.Whole.{whole}
 use borrow.Author.Needs.{needs}
 use Rattle.reading.proofs.operation.read.Statement.{statement}
