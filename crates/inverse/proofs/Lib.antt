@@ -1,3 +1,4 @@
+-- The theorems, and the laws below them, each file resting on those above it.
 pub mod Sequence
 pub mod WrittenReads
 pub mod ReadWrites

@@ -1,2 +1,3 @@
+-- The definitions of this crate, each file over those above it.
 pub mod Fields
 pub mod Tops

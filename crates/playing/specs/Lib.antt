@@ -1,1 +1,2 @@
+-- The definitions of this crate, each file over those above it.
 pub mod Performing

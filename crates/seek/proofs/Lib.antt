@@ -1,3 +1,4 @@
+-- The laws that the functions' proofs cite, each file resting on those above it.
 pub mod Letters
 pub mod Data
 pub mod Ahead

@@ -1,3 +1,4 @@
+-- The definitions of this crate, each file over those above it.
 pub mod Next
 pub mod Said
 pub mod Rules
