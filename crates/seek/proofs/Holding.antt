@@ -24,7 +24,7 @@ use Rattle.model.proofs.Tests.{by-test, if-true, if-false, flag-on, flag-off}
 use Rattle.seek.specs.Next.{endOf, nextAt}
 use Rattle.seek.specs.Rules.{isPoint, entryHolds, entriesHold}
 use Rattle.seek.proofs.Ahead.{entryOf, placed}
-use Rattle.seek.proofs.Standing.{Entries, allEntries, Walking, walk-starts, walk-ends, walk-meets, walk-nears, walk-turns}
+use Rattle.seek.proofs.Standing.{Entries, allEntries, Walking, walk-starts, walk-ends, walk-meets, walk-known, walk-nears, walk-turns}
 
 abbrev Items : Type 0
 Items = List (Placed (Item Event))
@@ -128,7 +128,7 @@ module _ (phrases : Bool) (items : Items) (size : ℕ) (s : List ℕ) where
           walk-turns _ phrases s at w entry here is next ends _
           (λ rest m same. ap checkAnswer (sym (all-go-on (rule phrases items size (allEntries phrases s)) (placed s at entry) rest (if-true _ _ _ (judged true h)))) ∙ same)
 
-pub ruleset holding = (holding-starts, holding-ends, holding-refuses, holding-turns, walk-nears, flag-on, flag-off)
+pub ruleset holding = (holding-starts, holding-ends, holding-refuses, holding-turns, walk-known, walk-nears, flag-on, flag-off)
 
 -- BOTH RULES, one after the other
 

@@ -9,8 +9,8 @@ ghost use Rattle.model.specs.Points.{isSpan};
 ghost use Rattle.model.specs.Seek.{seekOf};
 ghost use Rattle.model.specs.Track.{pointWidth, pointsOf};
 ghost use Rattle.seek.specs.Rules.{addressIn, entriesHold, entryHolds, pointIn};
+use super::known::read_known;
 use super::next::end_of;
-use super::next::read_next;
 use super::order::check_letters;
 use super::said::read_points;
 use items::find_address;
@@ -108,7 +108,7 @@ fn check_entries(voice: Voice, phrases: bool, body: &[u8], s: &[u8]) -> Check
     let points = read_points(phrases, s);
     let mut at: usize = 0;
     while at < s.len() {
-        let entry = read_next(phrases, s, at);
+        let entry = read_known(phrases, s, at);
         if !entry_holds(voice, phrases, body, points, entry) {
             return Check::Refused {
                 number: 13,
