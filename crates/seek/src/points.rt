@@ -14,6 +14,7 @@ use super::next::end_of;
 use super::order::check_letters;
 use super::said::read_points;
 use items::find_address;
+use items::is_address_from;
 use model::Address;
 use model::Check;
 use model::Points;
@@ -36,13 +37,13 @@ fn is_span(voice: Voice, body: &[u8], start: u32, stop: u32) -> bool
     requires { ⌜ isFine (bodyOf voice (now body)) ≡ true ⌝ }
     ensures { λ r. ⌜ r ≡ isSpan (addressIn voice (now (body .entry))) start stop ⌝ }
 {
+    if stop < start {
+        return false;
+    }
     if !is_address(voice, body, start) {
         return false;
     }
-    if !is_address(voice, body, stop) {
-        return false;
-    }
-    start <= stop
+    is_address_from(voice, body, start as usize, stop as usize)
 }
 
 // Whether a value is a point: an address, or with phrases a position in a list of so many letters.
