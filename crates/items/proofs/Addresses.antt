@@ -1,12 +1,14 @@
--- The search for an address: the invariant of `find_address`'s loop, and what each way out of it and each turn makes of it.
+-- The search for an address: the invariants of the loops of `is_address_from` and `find_address`, and what each way out of them and each
+-- turn makes of them.
 use Prim.Native.Nat.{ℕ, zero, suc, _+_, _-_, _*_, _<_, _≤_}
 use mathlib.Core.List.{List, [], _∷_}
-use mathlib.Core.Bool.{Bool, true, false}
+use mathlib.Core.Bool.{Bool, true, false, false≢true}
 use mathlib.Core.Path.{_≡_, refl, sym, _∙_, ap, ap₂, subst}
 use lib.ListN.{length}
 use native.Mathlib.Nat.{add-zero, zero-add, add-assoc}
+use native.Mathlib.Decide.{decLt}
 use native.Mathlib.Omega.{arith}
-use borrow.Author.Tests.{eq-eqb, ne-eqb, lt-ltb, le-ltb}
+use borrow.Author.Tests.{eq-eqb, ne-eqb, eqb-true, eqb-false, lt-ltb, le-ltb}
 use Rattle.model.specs.Words.{if_then_else_, _or_, _<?_, _≡?_, any, keep, sum, Placed, Checked, Checked.fine, Step, Step.met, Step.stuck}
 use Rattle.model.specs.Item.{Item, Item.timed, Item.endMark, durationOf, lasting, itemAt, itemMet, itemStep, bodyOf, isFine, itemsOf}
 use Rattle.model.specs.Points.{isAddress, timeOf, addressAnswer}
@@ -16,6 +18,7 @@ use Rattle.model.specs.declared.ReadItem.{ReadItem}
 use Rattle.model.specs.declared.ReadItem.the-variants.{Timed, EndMark, Refused}
 use Rattle.model.specs.declared.Address.{Address}
 use Rattle.model.specs.declared.Address.the-variants.{At, Nowhere}
+use Rattle.model.proofs.Tests.{by-test}
 use Rattle.model.proofs.Walks.{GoesOn, Stand, fine-found}
 use Rattle.items.proofs.Standing.{body-stands}
 use Rattle.items.proofs.Ahead.{item-goes}
@@ -48,13 +51,18 @@ isThere items size address = any (λ item. item .place ≡? address) items or (s
 abbrev pub timeIn : Items → ℕ → ℕ
 timeIn items address = lasting (keep (λ item. item .place <? address) items)
 
-pub record Seeking (voice : Voice) (s : List ℕ) (address at time : ℕ) : Type 0 where
+-- a walk that has not passed the address: the items from its place on tell whether it is one
+pub record Reaching (voice : Voice) (s : List ℕ) (address at : ℕ) : Type 0 where
   pub rest : List (Placed (Item Event))
   pub stands : Stand (length s) (itemStep voice s) at rest
   pub within : at ≤ length s
-  pub small : time ≤ 4294967296 * at
   pub there : isThere rest (length s) address ≡ isAddress (itemsOf voice s) (length s) address
-  pub times : time + timeIn rest address ≡ timeOf (itemsOf voice s) address
+
+-- and what lies before its place, and its items, make up the address's time
+pub record Seeking (voice : Voice) (s : List ℕ) (address at time : ℕ) : Type 0 where
+  pub walk : Reaching voice s address at
+  pub small : time ≤ 4294967296 * at
+  pub times : time + timeIn (walk .rest) address ≡ timeOf (itemsOf voice s) address
 
 -- a body that reads reads to its items
 pub reads-to-items : (voice : Voice) (s : List ℕ) → isFine (bodyOf voice s) ≡ true → bodyOf voice s ≡ fine (itemsOf voice s)
@@ -65,11 +73,14 @@ pub seek-starts : (voice : Voice) (s : List ℕ) (address : ℕ) → isFine (bod
 unfolding isAddress timeOf
 seek-starts voice s address h =
     record {
-      rest = itemsOf voice s;
-      stands = body-stands voice s (itemsOf voice s) (reads-to-items voice s h);
-      within = omega arith;
+      walk =
+          record {
+            rest = itemsOf voice s;
+            stands = body-stands voice s (itemsOf voice s) (reads-to-items voice s h);
+            within = omega arith;
+            there = refl;
+          };
       small = omega arith;
-      there = refl;
       times = zero-add _;
     }
 
@@ -116,25 +127,25 @@ pub timed-by : (item : Placed (Item Event)) (rest : Items) (address : ℕ) → i
 unfolding keep lasting sum if_then_else_
 timed-by item rest address h = simp lt-ltb
 
-module _ (voice : Voice) (s : List ℕ) (address at time : ℕ) (r : Seeking voice s address at time) where
-  -- an answer where the two halves are known
-  answered : (there : Bool) (t : ℕ) → isThere (r .rest) (length s) address ≡ there → time + timeIn (r .rest) address ≡ t
-      → (if there then At t else Nowhere) ≡ addressAnswer (itemsOf voice s) (length s) address
-  unfolding addressAnswer
-  answered there t p q = ap₂ (λ (b : Bool) (n : ℕ). if b then At n else Nowhere) (sym p ∙ r .there) (sym q ∙ r .times)
+-- A WALK UP TO AN ADDRESS
 
-  pub seek-finds : address ≤ at → at ≡ address → At time ≡ addressAnswer (itemsOf voice s) (length s) address
-  unfolding if_then_else_
-  seek-finds h e =
-      answered true time
-      (ap (isThere (r .rest) (length s)) (sym e) ∙ one-there voice s at (r .rest) (r .stands))
-      (ap (λ (n : ℕ). time + n) (none-before voice s address at (r .rest) (r .stands) h) ∙ add-zero time)
+module _ (voice : Voice) (s : List ℕ) (address at : ℕ) (r : Reaching voice s address at) where
+  reach-there : at ≡ address → isThere (r .rest) (length s) address ≡ true
+  reach-there e = ap (isThere (r .rest) (length s)) (sym e) ∙ one-there voice s at (r .rest) (r .stands)
 
-  pub seek-passes : address ≤ at → (at ≡ address → ⊥) → Nowhere ≡ addressAnswer (itemsOf voice s) (length s) address
-  unfolding if_then_else_
-  seek-passes h e =
-      let past : address < at = omega arith in
-      answered false _ (none-there voice s address at (r .rest) (r .stands) past (r .within)) refl
+  reach-past : address ≤ at → (at ≡ address → ⊥) → isThere (r .rest) (length s) address ≡ false
+  reach-past h e = none-there voice s address at (r .rest) (r .stands) (omega arith) (r .within)
+
+  reach-over : at < address → length s ≤ at → isThere (r .rest) (length s) address ≡ false
+  reach-over before past = none-past voice s address at (r .rest) (r .stands) before past
+
+  pub reach-ends : address ≤ at → (at ≡? address) ≡ isAddress (itemsOf voice s) (length s) address
+  reach-ends h =
+      by-test (at ≡? address) (λ e. e ∙ sym (reach-there (eqb-true at address e)) ∙ r .there)
+      (λ e. e ∙ sym (reach-past h (eqb-false at address e)) ∙ r .there)
+
+  pub reach-runs-out : at < address → length s ≤ at → false ≡ isAddress (itemsOf voice s) (length s) address
+  reach-runs-out before past = sym (reach-over before past) ∙ r .there
 
   -- the item that stands at the place
   first-item : at < length s → (item : Placed (Item Event)) × (rest : Items) × (r .rest ≡ item ∷ rest)
@@ -144,15 +155,10 @@ module _ (voice : Voice) (s : List ℕ) (address at time : ℕ) (r : Seeking voi
       go [] e = let over : at ≡ length s = subst (Standing voice s at) e (r .stands) in absurd (omega arith)
       go (item ∷ rest) e = (item, rest, e)
 
-  pub seek-runs-out : at < address → length s ≤ at → Nowhere ≡ addressAnswer (itemsOf voice s) (length s) address
-  unfolding if_then_else_
-  seek-runs-out before past = answered false _ (none-past voice s address at (r .rest) (r .stands) before past) refl
-
   -- one item further
-  stepped : (what : Item Event) (next : ℕ) → itemStep voice s at ≡ met (record { place = at; what = what }) next → at < address → durationOf what < 4294967296
-      → Seeking voice s address next (time + durationOf what)
-  stepped what next is before small =
-      let item : Placed (Item Event) = record { place = at; what = what } in
+  reach-steps : (item : Placed (Item Event)) (next : ℕ) → itemStep voice s at ≡ met item next → at < address
+      → (more : Reaching voice s address next) × (r .rest ≡ item ∷ more .rest)
+  reach-steps item next is before =
       let a = stands-ahead voice s at item next is in
       let f = first-item (omega arith) in
       let st : Standing voice s at (f .0 ∷ f .1) = subst (Standing voice s at) (f .2) (r .stands) in
@@ -160,52 +166,140 @@ module _ (voice : Voice) (s : List ℕ) (address at time : ℕ) (r : Seeking voi
       let same : f .0 ≡ item = cc in
       let on : st .0 ≡ next = cc in
       let rests : r .rest ≡ item ∷ f .1 = f .2 ∙ ap (λ (i : Placed (Item Event)). i ∷ f .1) same in
-      record {
-        rest = f .1;
-        stands = subst (λ (n : ℕ). Standing voice s n (f .1)) on (st .2);
-        within = a .1;
-        small = omega (arith, r .small);
-        there =
-            sym (passed-by item (f .1) address (length s) before)
-            ∙ ap (λ (items : Items). isThere items (length s) address) (sym rests)
-            ∙ r .there;
-        times =
-            add-assoc time (durationOf what) (timeIn (f .1) address)
-            ∙ ap (λ (n : ℕ). time + n) (sym (timed-by item (f .1) address before) ∙ ap (λ (items : Items). timeIn items address) (sym rests))
-            ∙ r .times;
-      }
+      let below : item .place < address = omega (arith, placed-at voice s at item next is) in (
+        record {
+          rest = f .1;
+          stands = subst (λ (n : ℕ). Standing voice s n (f .1)) on (st .2);
+          within = a .1;
+          there =
+              sym (passed-by item (f .1) address (length s) below)
+              ∙ ap (λ (items : Items). isThere items (length s) address) (sym rests)
+              ∙ r .there;
+        },
+        rests,
+      )
 
   module _ (i : ReadItem) (before : at < address) (here : at < length s) (is : i ≡ itemAt voice s at) where
     stands : (j : ReadItem) → i ≡ j → itemStep voice s at ≡ itemMet at j
     unfolding itemStep
     stands j e = ap (itemMet at) (sym is ∙ e)
 
-    pub seek-reads : (duration next : ℕ) (event : Event) → i ≡ Timed duration event next → duration < 4294967296
-        → Seeking voice s address next (time + duration)
-    unfolding durationOf itemMet
-    seek-reads duration next event e small = stepped (timed duration event) next (stands (Timed duration event next) e) before small
-
-    pub seek-marks : (next : ℕ) → i ≡ EndMark next → Seeking voice s address next time
-    unfolding durationOf itemMet
-    seek-marks next e =
-        subst (Seeking voice s address next) (add-zero time) (stepped endMark next (stands (EndMark next) e) before (omega arith))
-
-    pub seek-nears : (duration next : ℕ) (event : Event) → i ≡ Timed duration event next → length s - next < length s - at
+    pub reach-reads : (duration next : ℕ) (event : Event) → i ≡ Timed duration event next → Reaching voice s address next
     unfolding itemMet
-    seek-nears duration next event e = let a = stands-ahead voice s at _ next (stands (Timed duration event next) e) in omega arith
+    reach-reads duration next event e = reach-steps _ next (stands (Timed duration event next) e) before .0
 
-    pub seek-nears-mark : (next : ℕ) → i ≡ EndMark next → length s - next < length s - at
+    pub reach-marks : (next : ℕ) → i ≡ EndMark next → Reaching voice s address next
     unfolding itemMet
-    seek-nears-mark next e = let a = stands-ahead voice s at _ next (stands (EndMark next) e) in omega arith
+    reach-marks next e = reach-steps _ next (stands (EndMark next) e) before .0
+
+    pub reach-nears : (duration next : ℕ) (event : Event) → i ≡ Timed duration event next → length s - next < length s - at
+    unfolding itemMet
+    reach-nears duration next event e = let a = stands-ahead voice s at _ next (stands (Timed duration event next) e) in omega arith
+
+    pub reach-nears-mark : (next : ℕ) → i ≡ EndMark next → length s - next < length s - at
+    unfolding itemMet
+    reach-nears-mark next e = let a = stands-ahead voice s at _ next (stands (EndMark next) e) in omega arith
 
     -- nothing that stands in a body that reads is refused
-    pub seek-never : (number place : ℕ) → i ≡ Refused number place → Nowhere ≡ addressAnswer (itemsOf voice s) (length s) address
+    not-refused : (number place : ℕ) → i ≡ Refused number place → ⊥
     unfolding itemMet
-    seek-never number place e =
+    not-refused number place e =
         let f = first-item here in
         let st : Standing voice s at (f .0 ∷ f .1) = subst (Standing voice s at) (f .2) (r .stands) in
         let both : met (f .0) (st .0) ≡ stuck number place = sym (st .1) ∙ stands (Refused number place) e in
         let z : _≡_ {A = ℕ} 0 1 = cc in
-        absurd (omega arith)
+        omega arith
 
-pub ruleset seeking = (seek-starts, seek-finds, seek-passes, seek-runs-out, seek-reads, seek-marks, seek-nears, seek-nears-mark, seek-never)
+    pub reach-never : (number place : ℕ) → i ≡ Refused number place → false ≡ isAddress (itemsOf voice s) (length s) address
+    reach-never number place e = absurd (not-refused number place e)
+
+-- the walk may start at an address that is not past the one that is asked for
+
+module _ (voice : Voice) (s : List ℕ) (from address : ℕ) (order : from ≤ address) where
+  reach-stays : (items : Items) (at : ℕ) → Standing voice s at items → at ≤ length s
+      → isThere items (length s) address ≡ isAddress (itemsOf voice s) (length s) address → at ≡ from → Reaching voice s address from
+  reach-stays items at st within same here = subst (Reaching voice s address) here (record { rest = items; stands = st; within = within; there = same })
+
+  walks-to : (items : Items) (at : ℕ) → Standing voice s at items → at ≤ from → at ≤ length s → isThere items (length s) from ≡ true
+      → isThere items (length s) address ≡ isAddress (itemsOf voice s) (length s) address → Reaching voice s address from
+  walks-to [] at st near within known same =
+      elim (decLt at from) [
+        | yes before ↦ absurd (false≢true (sym (none-past voice s from at [] st before (omega arith)) ∙ known))
+        | no q ↦ reach-stays [] at st within same (omega arith)
+      ]
+  walks-to (item ∷ rest) at st near within known same =
+      elim (decLt at from) [
+        | yes before ↦
+            let a = stands-ahead voice s at item (st .0) (st .1) in
+            let below : item .place < from = omega (arith, placed-at voice s at item (st .0) (st .1)) in
+            let still = sym (passed-by item rest from (length s) below) ∙ known in
+            elim (decLt from (st .0)) [
+              | yes past ↦ absurd (false≢true (sym (none-there voice s from (st .0) rest (st .2) past (a .1)) ∙ still))
+              | no q ↦ walks-to rest (st .0) (st .2) (omega arith) (a .1) still (sym (passed-by item rest address (length s) (omega arith)) ∙ same)
+            ]
+        | no q ↦ reach-stays (item ∷ rest) at st within same (omega arith)
+      ]
+
+  pub reach-starts : isFine (bodyOf voice s) ≡ true → isAddress (itemsOf voice s) (length s) from ≡ true → Reaching voice s address from
+  unfolding isAddress
+  reach-starts h known =
+      walks-to (itemsOf voice s) 0 (body-stands voice s (itemsOf voice s) (reads-to-items voice s h)) (omega arith) (omega arith) known refl
+
+pub ruleset reaching = (reach-starts, reach-ends, reach-runs-out, reach-reads, reach-marks, reach-nears, reach-nears-mark, reach-never)
+
+-- AND ITS TIME
+
+module _ (voice : Voice) (s : List ℕ) (address at time : ℕ) (r : Seeking voice s address at time) where
+  -- an answer where the two halves are known
+  answered : (there : Bool) (t : ℕ) → isThere (r .walk .rest) (length s) address ≡ there → time + timeIn (r .walk .rest) address ≡ t
+      → (if there then At t else Nowhere) ≡ addressAnswer (itemsOf voice s) (length s) address
+  unfolding addressAnswer
+  answered there t p q = ap₂ (λ (b : Bool) (n : ℕ). if b then At n else Nowhere) (sym p ∙ r .walk .there) (sym q ∙ r .times)
+
+  pub seek-finds : address ≤ at → at ≡ address → At time ≡ addressAnswer (itemsOf voice s) (length s) address
+  unfolding if_then_else_
+  seek-finds h e =
+      answered true time (reach-there voice s address at (r .walk) e)
+      (ap (λ (n : ℕ). time + n) (none-before voice s address at (r .walk .rest) (r .walk .stands) h) ∙ add-zero time)
+
+  pub seek-passes : address ≤ at → (at ≡ address → ⊥) → Nowhere ≡ addressAnswer (itemsOf voice s) (length s) address
+  unfolding if_then_else_
+  seek-passes h e = answered false _ (reach-past voice s address at (r .walk) h e) refl
+
+  pub seek-runs-out : at < address → length s ≤ at → Nowhere ≡ addressAnswer (itemsOf voice s) (length s) address
+  unfolding if_then_else_
+  seek-runs-out before past = answered false _ (reach-over voice s address at (r .walk) before past) refl
+
+  -- one item further
+  stepped : (what : Item Event) (next : ℕ) → itemStep voice s at ≡ met (record { place = at; what = what }) next → at < address → durationOf what < 4294967296
+      → Seeking voice s address next (time + durationOf what)
+  stepped what next is before small =
+      let item : Placed (Item Event) = record { place = at; what = what } in
+      let a = stands-ahead voice s at item next is in
+      let n = reach-steps voice s address at (r .walk) item next is before in
+      record {
+        walk = n .0;
+        small = omega (arith, r .small);
+        times =
+            add-assoc time (durationOf what) (timeIn (n .0 .rest) address)
+            ∙ ap (λ (k : ℕ). time + k) (sym (timed-by item (n .0 .rest) address before) ∙ ap (λ (items : Items). timeIn items address) (sym (n .1)))
+            ∙ r .times;
+      }
+
+  module _ (i : ReadItem) (before : at < address) (here : at < length s) (is : i ≡ itemAt voice s at) where
+    pub seek-reads : (duration next : ℕ) (event : Event) → i ≡ Timed duration event next → duration < 4294967296
+        → Seeking voice s address next (time + duration)
+    unfolding durationOf itemMet
+    seek-reads duration next event e small =
+        stepped (timed duration event) next (stands voice s address at (r .walk) i before here is (Timed duration event next) e) before small
+
+    pub seek-marks : (next : ℕ) → i ≡ EndMark next → Seeking voice s address next time
+    unfolding durationOf itemMet
+    seek-marks next e =
+        subst (Seeking voice s address next) (add-zero time)
+        (stepped endMark next (stands voice s address at (r .walk) i before here is (EndMark next) e) before (omega arith))
+
+    pub seek-never : (number place : ℕ) → i ≡ Refused number place → Nowhere ≡ addressAnswer (itemsOf voice s) (length s) address
+    seek-never number place e = absurd (not-refused voice s address at (r .walk) i before here is number place e)
+
+pub ruleset seeking = (seek-starts, seek-finds, seek-passes, seek-runs-out, seek-reads, seek-marks, reach-nears, reach-nears-mark, seek-never)

@@ -4,6 +4,7 @@ mod body;
 mod duration;
 mod event;
 mod item;
+mod reach;
 mod standard;
 
 pub use body::find_address;
@@ -18,4 +19,5 @@ pub use event::is_value;
 pub use event::is_wave;
 pub use event::read_event;
 pub use item::read_item;
+pub use reach::is_address_from;
 pub use standard::standard_value;

@@ -6,11 +6,11 @@ use mathlib.Core.Bool.{Bool, true, false, not}
 use mathlib.Core.Path.{_≡_, refl, sym, _∙_, ap, ap₂}
 use lib.ListN.{length}
 use native.Mathlib.Omega.{arith}
-use borrow.Author.Tests.{le-leb, lt-leb, ltb-true, ltb-false}
-use Rattle.model.specs.Words.{if_then_else_, _<?_, _≤?_, _otherwise_, _>>_, Placed, Checked, Checked.fine, Checked.refused, passed, allPass}
+use borrow.Author.Tests.{le-leb, lt-leb, le-ltb, lt-ltb, ltb-true, ltb-false}
+use Rattle.model.specs.Words.{if_then_else_, _and_, _<?_, _≤?_, _otherwise_, _>>_, Placed, Checked, Checked.fine, Checked.refused, passed, allPass}
 use Rattle.model.specs.Item.{Item, isFine, checkAnswer}
 use Rattle.model.specs.Seek.{Entry, seekOf, startPoint, orderList, pointsSaid}
-use Rattle.model.specs.Points.{isAddress, addressAnswer, pointHolds, pointsHold, isPosition, orderHolds}
+use Rattle.model.specs.Points.{isAddress, isSpan, addressAnswer, pointHolds, pointsHold, isPosition, orderHolds}
 use Rattle.model.specs.Track.{pointWidth, pointsOf}
 use Rattle.model.specs.declared.Event.{Event}
 use Rattle.model.specs.declared.Points.{Points}
@@ -20,11 +20,11 @@ use Rattle.model.specs.declared.Check.{Check}
 use Rattle.model.specs.declared.Check.the-variants as check
 use Rattle.model.specs.declared.ReadEntry.{ReadEntry}
 use Rattle.model.specs.declared.ReadEntry.the-variants.{Start, Stop, Phrase, Order, Refused}
-use Rattle.model.proofs.Tests.{by-test, if-true, if-false, flag-on, flag-off}
+use Rattle.model.proofs.Tests.{by-test, if-true, if-false, and-on, first-false, not-on, not-off, flag-on, flag-off}
 use Rattle.seek.specs.Next.{endOf, nextAt}
 use Rattle.seek.specs.Rules.{isPoint, entryHolds, entriesHold}
 use Rattle.seek.proofs.Ahead.{entryOf, placed}
-use Rattle.seek.proofs.Standing.{Entries, allEntries, Walking, walk-starts, walk-ends, walk-meets, walk-nears, walk-turns}
+use Rattle.seek.proofs.Standing.{Entries, allEntries, Walking, walk-starts, walk-ends, walk-meets, walk-known, walk-nears, walk-turns}
 
 abbrev Items : Type 0
 Items = List (Placed (Item Event))
@@ -58,6 +58,34 @@ module _ (phrases : Bool) (items : Items) (size letters value : ℕ) (z : Bool) 
   point-address p h = rw p h
 
 pub ruleset numbered = (address-there, address-nowhere, not-over, point-position, point-address)
+
+-- a span, whose stop is looked for from its start on
+
+and-last-true : (a b : Bool) → b ≡ true → a ≡ (a and b)
+unfolding _and_
+and-last-true true b h = sym h
+and-last-true false b h = refl
+
+and-last-false : (a b c : Bool) → c ≡ false → false ≡ (a and b and c)
+unfolding _and_
+and-last-false true true c h = sym h
+and-last-false true false c h = refl
+and-last-false false b c h = refl
+
+module _ (items : Items) (size from to : ℕ) where
+  pub span-backward : to < from → false ≡ isSpan (isAddress items size) from to
+  unfolding isSpan
+  span-backward h = and-last-false _ _ _ (not-off _ (lt-ltb to from h))
+
+  pub span-unstarted : isAddress items size from ≡ false → false ≡ isSpan (isAddress items size) from to
+  unfolding isSpan
+  span-unstarted h = sym (first-false _ _ h)
+
+  pub span-onward : (z : Bool) → from ≤ to → isAddress items size from ≡ true → z ≡ isAddress items size to → z ≡ isSpan (isAddress items size) from to
+  unfolding isSpan
+  span-onward z h started e = and-on _ _ _ started (e ∙ and-last-true _ _ (not-on _ (le-ltb to from h)))
+
+pub ruleset spans = (span-backward, span-unstarted, span-onward, flag-on, flag-off)
 
 -- ENTRIES
 
@@ -128,7 +156,7 @@ module _ (phrases : Bool) (items : Items) (size : ℕ) (s : List ℕ) where
           walk-turns _ phrases s at w entry here is next ends _
           (λ rest m same. ap checkAnswer (sym (all-go-on (rule phrases items size (allEntries phrases s)) (placed s at entry) rest (if-true _ _ _ (judged true h)))) ∙ same)
 
-pub ruleset holding = (holding-starts, holding-ends, holding-refuses, holding-turns, walk-nears, flag-on, flag-off)
+pub ruleset holding = (holding-starts, holding-ends, holding-refuses, holding-turns, walk-known, walk-nears, flag-on, flag-off)
 
 -- BOTH RULES, one after the other
 

@@ -1,19 +1,19 @@
 -- The letters of phrases and order lists: where they lie among the bytes, and how many stand in front.
-use Prim.Native.Nat.{ℕ, suc, _+_, _-_, _<_, _≤_}
+use Prim.Native.Nat.{ℕ, zero, suc, _+_, _-_, _<_, _≤_}
 use mathlib.Core.List.{List, [], _∷_}
 use mathlib.Core.Bool.{Bool, true, false, false≢true}
-use mathlib.Core.Path.{_≡_, refl, sym, _∙_, ap}
+use mathlib.Core.Path.{_≡_, refl, sym, _∙_, ap, subst}
 use native.Mathlib.Nat.{add-zero, zero-add}
 use native.Mathlib.Omega.{arith}
 use mir.Syntax.{w64}
 use mir.Val.{Fits}
 use lib.ListN.{length, drop, getD, length-drop}
 use native.Mathlib.Decide.{decLt}
-use lib.Seq.{drop-cons, drop-length}
+use lib.Seq.{drop-cons, drop-length, getD-drop}
 use borrow.Author.Tests.{le-leb, lt-leb, ne-eqb}
 use Rattle.model.specs.Words.{if_then_else_, _and_, _or_, _≡?_, any}
 use Rattle.model.specs.Seek.{isLetter, lettersInFront}
-use Rattle.model.proofs.Tests.{if-all, if-true, if-false, flag-on, flag-off}
+use Rattle.model.proofs.Tests.{by-test, if-all, if-true, if-false, flag-on, flag-off}
 
 -- a byte apart from all of a list
 abbrev Apart : ℕ → List ℕ → Type 0
@@ -59,6 +59,23 @@ letters-within (byte ∷ bytes) =
 
 pub letters-reach : (s : List ℕ) (at : ℕ) → at ≤ length s → at + lettersInFront (drop at s) ≤ length s
 letters-reach s at h = omega (arith, letters-within (drop at s), length-drop at s)
+
+-- each of them is a letter
+
+some-in-front : (byte : ℕ) (bytes : List ℕ) (i : ℕ) → i < lettersInFront (byte ∷ bytes) → (isLetter byte ≡ true) × (i ≤ lettersInFront bytes)
+unfolding lettersInFront
+some-in-front byte bytes i h =
+    by-test (isLetter byte)
+    (λ one. let k = subst (λ (n : ℕ). i < n) (if-true _ _ _ one) h in (one, omega arith))
+    (λ other. let k = subst (λ (n : ℕ). i < n) (if-false _ _ _ other) h in absurd (omega arith))
+
+letter-in-front : (s : List ℕ) (i : ℕ) → i < lettersInFront s → isLetter (getD s i 0) ≡ true
+letter-in-front [] i h = absurd (omega (arith, letters-within []))
+letter-in-front (byte ∷ bytes) zero h = some-in-front byte bytes 0 h .0
+letter-in-front (byte ∷ bytes) (suc i) h = letter-in-front bytes i (some-in-front byte bytes (suc i) h .1)
+
+pub letter-among : (s : List ℕ) (at i : ℕ) → i < lettersInFront (drop at s) → isLetter (getD s (at + i) 0) ≡ true
+letter-among s at i h = ap isLetter (sym (getD-drop at s i 0)) ∙ letter-in-front (drop at s) i h
 
 pub letters-fit : (s : List ℕ) (at count : ℕ) → count ≡ lettersInFront (drop at s) → at ≤ length s → length s ≤ 65536 → Fits w64 (at + count)
 letters-fit s at count e h small = record { fits = omega (arith, letters-reach s at h) }

@@ -4,6 +4,7 @@ pub mod Data
 pub mod Ahead
 pub mod Cases
 pub mod Ordering
+pub mod LastList
 pub mod Standing
 pub mod Saying
 pub mod Holding

@@ -29,7 +29,7 @@ use Rattle.seek.specs.Rules.{marked, Named}
 use Rattle.seek.proofs.Ahead.{entryOf, placed}
 use Rattle.seek.proofs.Letters.{or-none}
 use Rattle.seek.proofs.Ordering.{none-flagged}
-use Rattle.seek.proofs.Standing.{Entries, allEntries, Without, Met, Walking, walk-starts, walk-ends, walk-nears, walk-turns, walk-all, later}
+use Rattle.seek.proofs.Standing.{Entries, allEntries, Without, Met, Walking, walk-starts, walk-ends, walk-known, walk-nears, walk-turns, walk-all, later}
 use Rattle.seek.proofs.Holding.{all-go-on}
 
 -- FLAGS
@@ -101,7 +101,7 @@ module _ (phrases : Bool) (s : List ℕ) (flags : List Bool) (at : ℕ) (w : Mar
         same = λ letter k. sym (named-turns s at flags letter entry rest (omega (arith, f .long))) ∙ f .same letter k;
       }))
 
-pub ruleset marking = (marking-starts, marking-ends, marking-turns, walk-nears)
+pub ruleset marking = (marking-starts, marking-ends, marking-turns, walk-known, walk-nears)
 
 -- THE ORDER LIST: there is one at most, so that its letters are all that the rule is about
 

@@ -118,7 +118,7 @@ module _ (before : List (Placed Entry)) (entry : Placed Entry) where
   unfolding inOrder if_then_else_
   in-order-twice h = simp h
 
-  in-order-late : ranked before (rank (entry .what)) ≡ true → inOrder before entry ≡ refused 12 (entry .place)
+  pub in-order-late : ranked before (rank (entry .what)) ≡ true → inOrder before entry ≡ refused 12 (entry .place)
   unfolding inOrder if_then_else_
   in-order-late g = by-test (tagged before (entry .what)) (λ h. simp h) (λ h. simp (h, g))
 

@@ -22,7 +22,7 @@ use Rattle.model.proofs.Tests.{by-test}
 use Rattle.seek.specs.Next.{isRefused, endOf, nextAt}
 use Rattle.seek.specs.Said.{nothing, noted, phraseNamed}
 use Rattle.seek.proofs.Ahead.{entryOf, placed}
-use Rattle.seek.proofs.Standing.{Entries, allEntries, Without, silent, Walking, walk-starts, Met, walk-ends, walk-meets, walk-nears, walk-turns}
+use Rattle.seek.proofs.Standing.{Entries, allEntries, Without, silent, Walking, walk-starts, Met, walk-ends, walk-meets, walk-known, walk-nears, walk-turns}
 
 -- WHO SAYS WHAT
 
@@ -140,7 +140,7 @@ module _ (phrases : Bool) (s : List ℕ) (points : Points) (at : ℕ) (w : Point
       walk-turns _ phrases s at w entry here is next ends _
       (λ rest m same. ap (λ (p : Points). saidOver p rest) e ∙ sym (said-turns s at points entry rest m) ∙ same)
 
-pub ruleset pointing = (points-start, points-end, points-turn, walk-nears)
+pub ruleset pointing = (points-start, points-end, points-turn, walk-known, walk-nears)
 
 -- A LETTER'S PHRASE
 
@@ -189,4 +189,4 @@ module _ (phrases : Bool) (s : List ℕ) (letter at : ℕ) (w : Searching phrase
     search-turns next ends e =
         walk-turns _ phrases s at w entry here is next ends _ (λ rest m same. sym (first-silent _ (phraseOf letter rest) (says _ e)) ∙ same)
 
-pub ruleset searching = (search-starts, search-ends, search-finds, search-turns, walk-nears)
+pub ruleset searching = (search-starts, search-ends, search-finds, search-turns, walk-known, walk-nears)

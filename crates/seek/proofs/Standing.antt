@@ -1,6 +1,6 @@
--- The entries of a seek body of good form stand in it one after the other, each in order after those before it, and no tag comes twice.
--- This is what every walk over them goes by.
-use Prim.Native.Nat.{ℕ, _-_, _<_, _≤_}
+-- The entries of a seek body of good form stand in it one after the other, each in order after those before it, no tag comes twice, and an
+-- order list comes last. This is what every walk over them goes by.
+use Prim.Native.Nat.{ℕ, _+_, _-_, _<_, _≤_}
 use mathlib.Core.List.{List, [], _∷_}
 use mathlib.Core.Bool.{Bool, true, false}
 use mathlib.Core.Option.{Option, none}
@@ -9,15 +9,18 @@ use lib.ListN.{length}
 use native.Mathlib.Omega.{arith}
 use borrow.Author.Tests.{eq-eqb}
 use Rattle.model.specs.Words.{_or_, _≡?_, any, _orElse_, firstSaid, Placed, Checked.fine, Checked.refused, walkTo, inTurn}
+use Rattle.model.specs.Bytes.{part}
 use Rattle.model.specs.Item.{isFine, found}
-use Rattle.model.specs.Seek.{Entry, tag, inOrder, entryStep, seekOf}
+use Rattle.model.specs.Seek.{Entry, Entry.start, Entry.stop, Entry.phrase, Entry.order, tag, rank, inOrder, entryStep, seekOf}
 use Rattle.model.specs.Track.{pointWidth}
 use Rattle.model.specs.declared.ReadEntry.{ReadEntry}
+use Rattle.model.specs.declared.ReadEntry.the-variants.{Start, Stop, Phrase, Order, Refused}
 use Rattle.model.proofs.Tests.{by-test, if-true, if-false, first-true}
 use Rattle.model.proofs.Walks.{GoesOn, Stand, Pass, stand-iff}
 use Rattle.model.proofs.Walks.{fine-found}
-use Rattle.seek.specs.Next.{isRefused, endOf, nextAt}
-use Rattle.seek.proofs.Ordering.{in-order-twice}
+use Rattle.seek.specs.Next.{isRefused, endOf, nextAt, isKnown, KnownAt}
+use Rattle.seek.proofs.LastList.{known-room}
+use Rattle.seek.proofs.Ordering.{in-order-twice, in-order-late}
 use Rattle.seek.proofs.Ahead.{EntryAhead, next-ahead, entryOf, placed, stepOf, next-steps, entry-goes}
 
 abbrev pub Entries : Type 0
@@ -136,6 +139,35 @@ unfolding firstSaid _orElse_
 silent says t others [] w = refl
 silent says t others (entry ∷ entries) w = rw (others entry (w .0)) (silent says t others entries (w .1))
 
+-- THE ORDER LIST COMES LAST: any other entry is before it in rank, or has its tag
+
+after-order : (before : Entries) (at : ℕ) (letters : List ℕ) (place : ℕ) (entry : Entry)
+    → inOrder (record { place = at; what = order letters } ∷ before) (record { place = place; what = entry }) ≡ refused 12 place
+unfolding any rank tag
+after-order before at letters place (start value) = in-order-late _ _ (first-true _ _ refl)
+after-order before at letters place (stop value) = in-order-late _ _ (first-true _ _ refl)
+after-order before at letters place (phrase letter from to) = in-order-late _ _ (first-true _ _ refl)
+after-order before at letters place (order more) = in-order-twice _ _ (first-true _ _ refl)
+
+none-after-order : (before : Entries) (at : ℕ) (letters : List ℕ) (rest : Entries)
+    → Pass inOrder (record { place = at; what = order letters } ∷ before) rest → rest ≡ []
+none-after-order before at letters [] p = refl
+none-after-order before at letters (entry ∷ rest) p =
+    let q = sym (after-order before at letters (entry .place) (entry .what)) ∙ p .0 in
+    let z : _≡_ {A = ℕ} 0 1 = cc in
+    absurd (omega arith)
+
+turn-known : (phrases : Bool) (s : List ℕ) (at : ℕ) (before rest : Entries) (entry : ReadEntry) → Turn phrases s at before rest entry
+    → isKnown (length s) entry ≡ true
+unfolding isKnown isRefused endOf entryOf
+turn-known phrases s at before rest (Start value next) t = refl
+turn-known phrases s at before rest (Stop value next) t = refl
+turn-known phrases s at before rest (Phrase letter from to next) t = refl
+turn-known phrases s at before rest (Order letters next) t =
+    let none-left = none-after-order before at (part s (at + 3) letters) (t .more) (t .stand .passes) in
+    eq-eqb next (length s) (subst (Stand (length s) (entryStep (pointWidth phrases) s) next) none-left (t .stand .stands))
+turn-known phrases s at before rest Refused t = sym (t .whole)
+
 -- A WALK over the entries, with something that holds of those left
 pub record Walking (P : List (Placed Entry) → Type 0) (phrases : Bool) (s : List ℕ) (at : ℕ) : Type 0 where
   pub before : List (Placed Entry)
@@ -156,6 +188,12 @@ pub record Met (s : List ℕ) (at : ℕ) (entry : ReadEntry) (more : List (Place
 module _ (P : Entries → Type 0) (phrases : Bool) (s : List ℕ) (at : ℕ) (w : Walking P phrases s at) where
   pub walk-ends : length s ≤ at → P []
   walk-ends past = subst P (standing-ends phrases s at (w .before) (w .rest) (w .standing) past) (w .holds)
+
+  pub walk-known : at < length s → KnownAt (pointWidth phrases) s at
+  walk-known here =
+      let entry = nextAt (pointWidth phrases) s at in
+      let k = turn-known phrases s at (w .before) (w .rest) entry (standing-turn phrases s at (w .before) entry refl (w .rest) (w .standing) here) in
+      record { room = known-room (pointWidth phrases) s at k; known = k }
 
   module _ (entry : ReadEntry) (here : at < length s) (is : entry ≡ nextAt (pointWidth phrases) s at) where
     turn : Turn phrases s at (w .before) (w .rest) entry

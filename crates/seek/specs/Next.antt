@@ -1,7 +1,8 @@
 -- An entry and the place of the next one, as the walks of a seek body pass on; and what the check of their order remembers of them.
-use Prim.Native.Nat.{ℕ, _+_}
+use Prim.Native.Nat.{ℕ, _+_, _≤_}
 use mathlib.Core.List.{List}
 use mathlib.Core.Bool.{Bool, true, false}
+use mathlib.Core.Path.{_≡_}
 use lib.ListN.{length}
 use Rattle.model.specs.Words.{if_then_else_, _≤?_, _≡?_}
 use Rattle.model.specs.Bytes.{_!_}
@@ -42,6 +43,19 @@ pastComma s entry =
 -- the entry at a place, and the place of the next one
 unfoldable pub nextAt : ℕ → List ℕ → ℕ → ReadEntry
 nextAt width s at = pastComma s (entryAt width s at)
+
+-- of a body of good form an order list is the last entry, and a refused entry is none
+unfoldable pub isKnown : ℕ → ReadEntry → Bool
+isKnown end (Start value next) = true
+isKnown end (Stop value next) = true
+isKnown end (Phrase letter from to next) = true
+isKnown end (Order letters next) = next ≡? end
+isKnown end Refused = false
+
+-- such an entry stands at a place
+pub record KnownAt (width : ℕ) (s : List ℕ) (at : ℕ) : Type 0 where
+  pub room : at + 3 ≤ length s
+  pub known : isKnown (length s) (nextAt width s at) ≡ true
 
 -- what orders an entry among others, and a number of its own for each tag: a phrase's is its letter
 unfoldable pub rankOf : ReadEntry → ℕ

@@ -2,6 +2,7 @@
 // Each function answers what the definition of its name in model/specs says.
 mod entry;
 mod form;
+mod known;
 mod next;
 mod order;
 mod points;

@@ -8,8 +8,8 @@ ghost use Rattle.model.specs.Points.{orderHolds};
 ghost use Rattle.model.specs.Seek.{seekOf};
 ghost use Rattle.model.specs.Track.{pointWidth};
 ghost use Rattle.seek.specs.Rules.{Named, marked};
+use super::known::read_known;
 use super::next::end_of;
-use super::next::read_next;
 use super::said::read_points;
 use model::Check;
 use model::ReadEntry;
@@ -46,7 +46,7 @@ fn name_letters(phrases: bool, s: &[u8]) -> [bool; 256]
     let mut flags = [false; 256];
     let mut at: usize = 0;
     while at < s.len() {
-        let entry = read_next(phrases, s, at);
+        let entry = read_known(phrases, s, at);
         mark(&mut flags, entry);
         at = end_of(entry);
     }

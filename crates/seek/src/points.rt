@@ -9,11 +9,12 @@ ghost use Rattle.model.specs.Points.{isSpan};
 ghost use Rattle.model.specs.Seek.{seekOf};
 ghost use Rattle.model.specs.Track.{pointWidth, pointsOf};
 ghost use Rattle.seek.specs.Rules.{addressIn, entriesHold, entryHolds, pointIn};
+use super::known::read_known;
 use super::next::end_of;
-use super::next::read_next;
 use super::order::check_letters;
 use super::said::read_points;
 use items::find_address;
+use items::is_address_from;
 use model::Address;
 use model::Check;
 use model::Points;
@@ -36,13 +37,13 @@ fn is_span(voice: Voice, body: &[u8], start: u32, stop: u32) -> bool
     requires { ⌜ isFine (bodyOf voice (now body)) ≡ true ⌝ }
     ensures { λ r. ⌜ r ≡ isSpan (addressIn voice (now (body .entry))) start stop ⌝ }
 {
+    if stop < start {
+        return false;
+    }
     if !is_address(voice, body, start) {
         return false;
     }
-    if !is_address(voice, body, stop) {
-        return false;
-    }
-    start <= stop
+    is_address_from(voice, body, start as usize, stop as usize)
 }
 
 // Whether a value is a point: an address, or with phrases a position in a list of so many letters.
@@ -108,7 +109,7 @@ fn check_entries(voice: Voice, phrases: bool, body: &[u8], s: &[u8]) -> Check
     let points = read_points(phrases, s);
     let mut at: usize = 0;
     while at < s.len() {
-        let entry = read_next(phrases, s, at);
+        let entry = read_known(phrases, s, at);
         if !entry_holds(voice, phrases, body, points, entry) {
             return Check::Refused {
                 number: 13,

@@ -7,8 +7,8 @@ ghost use Rattle.model.specs.Item.{found, isFine};
 ghost use Rattle.model.specs.Seek.{foundPhrase, phraseOf, pointsSaid, seekOf};
 ghost use Rattle.model.specs.Track.{pointWidth};
 ghost use Rattle.seek.specs.Said.{noted, phraseNamed};
+use super::known::read_known;
 use super::next::end_of;
-use super::next::read_next;
 use model::FoundPhrase;
 use model::Points;
 use model::ReadEntry;
@@ -62,7 +62,7 @@ pub fn read_points(phrases: bool, s: &[u8]) -> Points
     };
     let mut at: usize = 0;
     while at < s.len() {
-        let entry = read_next(phrases, s, at);
+        let entry = read_known(phrases, s, at);
         points = note(points, at, entry);
         at = end_of(entry);
     }
@@ -101,7 +101,7 @@ pub fn find_phrase(phrases: bool, s: &[u8], letter: u8) -> FoundPhrase
 {
     let mut at: usize = 0;
     while at < s.len() {
-        let entry = read_next(phrases, s, at);
+        let entry = read_known(phrases, s, at);
         match phrase_in(letter, entry) {
             FoundPhrase::Between { start, stop } => {
                 return FoundPhrase::Between { start, stop };

@@ -15,8 +15,8 @@ abbrev μ-loop : tie.MeasureT-loop
 loop-holds : tie.Need-loop-holds Inv-loop μ-loop
 loop-holds c = search (needs, marking)
 
-read-next-requires : tie.Need-read-next-requires Inv-loop μ-loop
-read-next-requires c κs = search (needs, marking)
+read-known-requires : tie.Need-read-known-requires Inv-loop μ-loop
+read-known-requires c κs = search (needs, marking)
 
 mark-requires : tie.Need-mark-requires Inv-loop μ-loop
 mark-requires c κs = search (needs, marking)
@@ -40,7 +40,7 @@ name-letters-spec =
     Inv-loop
     μ-loop
     loop-holds
-    read-next-requires
+    read-known-requires
     mark-requires
     end-of-requires
     loop-less

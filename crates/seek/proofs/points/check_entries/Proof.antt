@@ -19,8 +19,8 @@ read-points-requires c κs = search (needs, holding)
 loop-holds : tie.Need-loop-holds Inv-loop μ-loop
 loop-holds c = search (needs, holding)
 
-read-next-requires : tie.Need-read-next-requires Inv-loop μ-loop
-read-next-requires c κs = search (needs, holding)
+read-known-requires : tie.Need-read-known-requires Inv-loop μ-loop
+read-known-requires c κs = search (needs, holding)
 
 entry-holds-requires : tie.Need-entry-holds-requires Inv-loop μ-loop
 entry-holds-requires c κs = search (needs, holding)
@@ -48,7 +48,7 @@ check-entries-spec =
     μ-loop
     read-points-requires
     loop-holds
-    read-next-requires
+    read-known-requires
     entry-holds-requires
     returns
     end-of-requires

@@ -15,8 +15,8 @@ abbrev μ-loop : tie.MeasureT-loop
 loop-holds : tie.Need-loop-holds Inv-loop μ-loop
 loop-holds c = search (needs, searching)
 
-read-next-requires : tie.Need-read-next-requires Inv-loop μ-loop
-read-next-requires c κs = search (needs, searching)
+read-known-requires : tie.Need-read-known-requires Inv-loop μ-loop
+read-known-requires c κs = search (needs, searching)
 
 phrase-in-requires : tie.Need-phrase-in-requires Inv-loop μ-loop
 phrase-in-requires c κs = search (needs, searching)
@@ -49,7 +49,7 @@ find-phrase-spec =
     Inv-loop
     μ-loop
     loop-holds
-    read-next-requires
+    read-known-requires
     phrase-in-requires
     enum-known-start
     returns

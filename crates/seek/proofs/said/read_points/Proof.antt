@@ -15,8 +15,8 @@ abbrev μ-loop : tie.MeasureT-loop
 loop-holds : tie.Need-loop-holds Inv-loop μ-loop
 loop-holds c = search (needs, pointing)
 
-read-next-requires : tie.Need-read-next-requires Inv-loop μ-loop
-read-next-requires c κs = search (needs, pointing)
+read-known-requires : tie.Need-read-known-requires Inv-loop μ-loop
+read-known-requires c κs = search (needs, pointing)
 
 note-requires : tie.Need-note-requires Inv-loop μ-loop
 note-requires c κs = search (needs, pointing)
@@ -40,7 +40,7 @@ read-points-spec =
     Inv-loop
     μ-loop
     loop-holds
-    read-next-requires
+    read-known-requires
     note-requires
     end-of-requires
     loop-less
