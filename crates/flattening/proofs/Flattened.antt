@@ -28,32 +28,16 @@ use Rattle.flattening.specs.declared.OrderSize.{OrderSize}
 use Rattle.flattening.specs.declared.OrderSize.the-variants.{Bytes, Over}
 use Rattle.flattening.specs.Parts.{told, shapeOf, spanShape}
 use Rattle.flattening.specs.Orders.{orderBytes, shapeAt, sizeAfter, nothing, sizeAnswer, Slight, AllSlight, AllShaped, AllLight, fitted}
+use Rattle.flattening.proofs.Shapes.{span-lead-within, span-tail-within}
 use Rattle.flattening.proofs.Sizing.{order-sized}
-
--- what a shape says lies within its span
-lead-within : (s : List ℕ) (lasts : ℕ) (rows : List (At Event)) → Rising 0 lasts rows → shapeOf lasts (told s rows) .lead ≤ lasts
-unfolding shapeOf told
-lead-within s lasts [] rising = omega arith
-lead-within s lasts (row ∷ rows) rising = later (row .step) rows (rising .1)
-  where
-    later : (low : ℕ) (others : List (At Event)) → Rising low lasts others → low ≤ lasts
-    later low [] r = r
-    later low (other ∷ others) r = let h = later (other .step) others (r .1) in omega arith
-
-tail-within : (s : List ℕ) (lasts : ℕ) (rows : List (At Event)) → shapeOf lasts (told s rows) .tail ≤ lasts
-unfolding shapeOf told
-tail-within s lasts [] = omega arith
-tail-within s lasts (row ∷ rows) = omega arith
 
 module _ (s : List ℕ) (items : Items) (spans : List Span) (shapes : List Shape) (letters : List ℕ) where
   pub all-slight : AllShaped s items spans shapes letters → AllLight shapes letters → AllRise items spans letters → AllShort spans letters → AllSlight shapes letters
-  unfolding spanShape
   all-slight shaped light rises short i h =
       let span = spanAt spans (letters ! i) in
-      let rows = spanRows items span 0 in
       let is = shaped i h in
-      let lead = lead-within s (span .lasts) rows (subst (λ (n : ℕ). Rising 0 n rows) (zero-add (span .lasts)) (rises i h 0)) in
-      let tail = tail-within s (span .lasts) rows in
+      let lead = span-lead-within s items span (rises i h) in
+      let tail = span-tail-within s items span in
       record {
         lead = omega (arith, ap (λ (shape : Shape). shape .lead) is, short i h);
         tail = omega (arith, ap (λ (shape : Shape). shape .tail) is, short i h);

@@ -4,6 +4,7 @@ pub mod Fitting
 pub mod Ahead
 pub mod Telling
 pub mod Shapes
+pub mod WrittenAgain
 pub mod Shaping
 pub mod Ordering
 pub mod Sizing

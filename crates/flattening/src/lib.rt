@@ -1,5 +1,6 @@
 // FLATTEN: the plain form of a track in lent room. A section's messages are written after their gaps; how many bytes a whole order takes is
 // known from a few numbers for each of its sections before one is written.
+mod again;
 mod bodies;
 mod gaps;
 mod operation;

@@ -20,7 +20,8 @@ returns : tie.Need-returns
 returns c = (search flattened-order, search flattened-order)
 
 write-order-requires : tie.Need-write-order-requires
-write-order-requires c κs = (search needs, (search needs, (search needs, (search needs, (search needs, (search flattened-order, search flattened-order))))))
+write-order-requires c κs =
+    (search needs, (search needs, (search needs, (search needs, (search needs, (search needs, (search flattened-order, search flattened-order)))))))
 
 returns-2 : tie.Need-returns-2
 returns-2 c = (search flattened-order, search flattened-order)
