@@ -8,7 +8,6 @@ pub mod WrittenAgain
 pub mod Shaping
 pub mod Ordering
 pub mod Sizing
-pub mod Shaped
 pub mod Flattened
 pub mod TrackFlattened
 pub mod Operations

@@ -1,9 +1,8 @@
 -- The plain form of an order, span after span: the invariant of `write_order`'s loop, that what is still to be stored makes the whole, and
 -- what each turn and the end make of it.
 use Prim.Native.Nat.{ℕ, suc, _+_, _-_, _*_, _<_, _≤_}
-use mathlib.Core.Bool.{true}
 use mathlib.Core.List.{List, [], _∷_, _++_, map, map-append}
-use mathlib.Core.Path.{_≡_, refl, sym, _∙_, ap, ap₂, subst}
+use mathlib.Core.Path.{_≡_, refl, sym, _∙_, ap, ap₂}
 use mir.Syntax.{w64}
 use mir.Val.{Fits}
 use lib.ListN.{length, drop, set, replicate, length-append, length-set, length-replicate, getD-replicate}
@@ -13,7 +12,7 @@ use native.Mathlib.Omega.{arith}
 use borrow.Author.Tests.{eqb-true, eqb-false}
 use Rattle.model.specs.Words.{_≡?_}
 use Rattle.model.specs.Bytes.{_!_}
-use Rattle.model.specs.Item.{bodyOf, isFine, itemsOf, Item, Item.endMark}
+use Rattle.model.specs.Item.{itemsOf, Item.endMark}
 use Rattle.model.specs.Play.{At}
 use Rattle.model.specs.Plain.{itemBytes, bytesOf, rest, plainAfter}
 use Rattle.model.specs.Content.{Content, contentOf, handyPhone}
@@ -26,7 +25,7 @@ use Rattle.model.proofs.Stores.{sets-append}
 use Rattle.sections.specs.Spans.{Items, spanRows, Playable}
 use Rattle.plain.proofs.PlainItems.{bytes-append}
 use Rattle.playing.specs.Performing.{spanAt, AllPlayable, lastsTogether, rowsTogether, AllRise}
-use Rattle.flattening.specs.Parts.{told, partBytes, partLast, spanShape, spanBytes, Rises, Written, WrittenWhereKnown}
+use Rattle.flattening.specs.Parts.{told, partBytes, partLast, spanShape, spanBytes, SpanRises, Written, WrittenWhereKnown}
 use Rattle.flattening.specs.Orders.{orderBytes, shapeAt, AllShaped}
 use Rattle.flattening.proofs.Joining.{plain-bytes}
 use Rattle.flattening.proofs.Shapes.{last-within}
@@ -57,6 +56,29 @@ unfolding orderBytes rowsTogether lastsTogether told plainAfter bytesOf itemByte
 order-none s items spans past before =
     ap (λ (e : ℕ). bytesOf handyPhone (rest handyPhone (e - past) ++ (endMark ∷ []))) (add-zero before)
     ∙ bytes-append Content handyPhone (rest handyPhone (before - past)) (endMark ∷ [])
+
+pub order-none-length : (s : List ℕ) (items : Items) (spans : List Span) (past before : ℕ)
+    → length (orderBytes s items spans past before []) ≡ length (bytesOf handyPhone (rest handyPhone (before - past))) + 4
+order-none-length s items spans past before =
+    ap length (order-none s items spans past before) ∙ length-append (bytesOf handyPhone (rest handyPhone (before - past))) (0 ∷ 0 ∷ 0 ∷ 0 ∷ [])
+
+-- the letter at a position, and what is left after it
+letter-next : (letters : List ℕ) (i : ℕ) → i < length letters → drop i letters ≡ letters ! i ∷ drop (i + 1) letters
+letter-next letters i here = let on : suc i ≡ i + 1 = omega arith in drop-cons letters i 0 here ∙ ap (λ (n : ℕ). letters ! i ∷ drop n letters) on
+
+module _ (s : List ℕ) (items : Items) (spans : List Span) (letters : List ℕ) (past before i : ℕ) (here : i < length letters) where
+  abbrev rows-next : List (At Event)
+  rows-next = spanRows items (spanAt spans (letters ! i)) before
+
+  abbrev left-then : List ℕ
+  left-then = orderBytes s items spans (partLast s past rows-next) (before + spanAt spans (letters ! i) .lasts) (drop (i + 1) letters)
+
+  order-next : orderBytes s items spans past before (drop i letters) ≡ partBytes s past rows-next ++ left-then
+  order-next =
+      ap (orderBytes s items spans past before) (letter-next letters i here) ∙ order-first s items spans past before (letters ! i) (drop (i + 1) letters)
+
+  pub order-next-length : length (orderBytes s items spans past before (drop i letters)) ≡ length (partBytes s past rows-next) + length left-then
+  order-next-length = ap length order-next ∙ length-append (partBytes s past rows-next) left-then
 
 module _ (voice : Voice) (s : List ℕ) (spans : List Span) (shapes : List Shape) (letters : List ℕ) where
   abbrev items : Items
@@ -136,7 +158,7 @@ module _ (voice : Voice) (s : List ℕ) (spans : List Span) (shapes : List Shape
       left-is = ap (orderBytes s items spans past before) none-left ∙ order-none s items spans past before
 
       left-long : length (orderBytes s items spans past before (drop i letters)) ≡ length (bytesOf handyPhone (rest handyPhone (before - past))) + 4
-      left-long = ap length left-is ∙ length-append (bytesOf handyPhone (rest handyPhone (before - past))) (0 ∷ 0 ∷ 0 ∷ 0 ∷ [])
+      left-long = ap (λ (l : List ℕ). length (orderBytes s items spans past before l)) none-left ∙ order-none-length s items spans past before
 
       pub store-rest-room : at + length (bytesOf handyPhone (rest handyPhone (before - past))) ≤ length out
       store-rest-room = omega (arith, left-long, w .size, w .room)
@@ -163,20 +185,9 @@ module _ (voice : Voice) (s : List ℕ) (spans : List Span) (shapes : List Shape
       abbrev rows-here : List (At Event)
       rows-here = spanRows (itemsOf voice s) (spanAt spans (letters ! i)) before
 
-      next : drop i letters ≡ letters ! i ∷ drop (i + 1) letters
-      next = let on : suc i ≡ i + 1 = omega arith in drop-cons letters i 0 here ∙ ap (λ (n : ℕ). letters ! i ∷ drop n letters) on
-
       lasts-next : lastsTogether spans (drop i letters) ≡ span-here .lasts + lastsTogether spans (drop (i + 1) letters)
       unfolding lastsTogether
-      lasts-next = ap (lastsTogether spans) next
-
-      left-next : orderBytes s items spans past before (drop i letters)
-          ≡ partBytes s past rows-here ++ orderBytes s items spans (partLast s past rows-here) (before + span-here .lasts) (drop (i + 1) letters)
-      left-next = ap (orderBytes s items spans past before) next ∙ order-first s items spans past before (letters ! i) (drop (i + 1) letters)
-
-      long-next : length (orderBytes s items spans past before (drop i letters)) ≡ length (partBytes s past rows-here)
-          + length (orderBytes s items spans (partLast s past rows-here) (before + span-here .lasts) (drop (i + 1) letters))
-      long-next = ap length left-next ∙ length-append (partBytes s past rows-here) _
+      lasts-next = ap (lastsTogether spans) (letter-next letters i here)
 
       pub store-playable : Playable (itemsOf voice s) (length s) (spanAt spans (letters ! i))
       store-playable = w .playable i here
@@ -184,14 +195,14 @@ module _ (voice : Voice) (s : List ℕ) (spans : List Span) (shapes : List Shape
       pub store-shape : shapeAt shapes (letters ! i) ≡ spanShape s (itemsOf voice s) (spanAt spans (letters ! i))
       store-shape = w .shaped i here
 
-      pub store-rises : Rises (itemsOf voice s) (spanAt spans (letters ! i))
+      pub store-rises : SpanRises (itemsOf voice s) (spanAt spans (letters ! i))
       store-rises = w .rises i here
 
       pub store-late : before + spanAt spans (letters ! i) .lasts ≤ 4611686018427387904
       store-late = omega (arith, w .late, lasts-next)
 
       pub store-room : at + length (partBytes s past (spanRows (itemsOf voice s) (spanAt spans (letters ! i)) before)) ≤ length out
-      store-room = omega (arith, long-next, w .size, w .room)
+      store-room = omega (arith, order-next-length s items spans letters past before i here, w .size, w .room)
 
       pub store-before-fits : Fits w64 (before + spanAt spans (letters ! i) .lasts)
       store-before-fits = record { fits = omega (arith, w .late, lasts-next) }
@@ -236,9 +247,9 @@ module _ (voice : Voice) (s : List ℕ) (spans : List Span) (shapes : List Shape
             ap (λ (x : ℕ). sets m told-at (later x)) p
             ∙ ap₂ (λ (x : List ℕ) (n : ℕ). sets x n (later (partLast s past rows-here))) e a
             ∙ sets-append out at (partBytes s past rows-here) (later (partLast s past rows-here))
-            ∙ ap (sets out at) (sym left-next) in
+            ∙ ap (sets out at) (sym (order-next s items spans letters past before i here)) in
             let sized : told-at + length (later told-past) ≡ at + length (orderBytes s items spans past before (drop i letters)) =
-            ap₂ (λ (n x : ℕ). n + length (later x)) a p ∙ omega (arith, long-next) in
+            ap₂ (λ (n x : ℕ). n + length (later x)) a p ∙ omega (arith, order-next-length s items spans letters past before i here) in
             record {
               bytes = w .bytes;
               playable = w .playable;

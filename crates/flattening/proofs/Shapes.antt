@@ -17,7 +17,7 @@ use Rattle.model.specs.declared.Outline.{Outline}
 use Rattle.model.specs.declared.Span.{Span}
 use Rattle.model.proofs.Tests.{by-test}
 use Rattle.sections.specs.Spans.{Items, messagesAfter, itemsFrom, counted, spanRows, Rising}
-use Rattle.flattening.specs.Parts.{plainPart, lastStep, told, partBytes, partLast, gapBytes, gapSize, shapeOf, spanShape, bytesAfterGap, spanBytes, Rises, silence, joined, shaped}
+use Rattle.flattening.specs.Parts.{plainPart, lastStep, told, partBytes, partLast, gapBytes, gapSize, shapeOf, spanShape, bytesAfterGap, spanBytes, SpanRises, silence, joined, shaped}
 use Rattle.flattening.proofs.Joining.{gap-length, first-after-gap, after-gap-length, first-length}
 
 -- rows joined to an outline one after the other
@@ -169,7 +169,7 @@ tail-within s lasts [] = omega arith
 tail-within s lasts (row ∷ rows) = omega arith
 
 module _ (s : List ℕ) (items : Items) (span : Span) where
-  pub span-lead-within : Rises items span → spanShape s items span .lead ≤ span .lasts
+  pub span-lead-within : SpanRises items span → spanShape s items span .lead ≤ span .lasts
   unfolding spanShape
   span-lead-within rises =
       let rows = spanRows items span 0 in

@@ -1,13 +1,10 @@
 -- A SECTION WRITTEN AGAIN: the gap to its first message, and the bytes that stand in the memory already.
-use Prim.Native.Nat.{ℕ, _+_, _-_, _<_, _≤_}
+use Prim.Native.Nat.{ℕ, _+_, _-_, _≤_}
 use mathlib.Core.Bool.{true, false}
-use mathlib.Core.List.{List, [], _∷_, _++_}
+use mathlib.Core.List.{List, [], _++_}
 use mathlib.Core.Path.{_≡_, refl, sym, _∙_, ap, ap₂}
-use mir.Syntax.{w64}
-use mir.Val.{Fits}
 use lib.ListN.{length, length-append}
 use lib.Seq.{sets, length-sets}
-use native.Mathlib.Nat.{add-zero}
 use native.Mathlib.Omega.{arith}
 use Rattle.model.specs.Bytes.{part}
 use Rattle.model.specs.Play.{At}
@@ -17,7 +14,7 @@ use Rattle.model.specs.declared.Span.{Span}
 use Rattle.model.proofs.Stores.{sets-append}
 use Rattle.sections.specs.Spans.{Items, spanRows}
 use Rattle.sections.proofs.Copying.{part-before, part-stored}
-use Rattle.flattening.specs.Parts.{partBytes, partLast, gapBytes, gapSize, spanShape, spanBytes, Rises, Written, WrittenWhereKnown}
+use Rattle.flattening.specs.Parts.{partBytes, partLast, gapBytes, gapSize, spanShape, spanBytes, SpanRises, Written, WrittenWhereKnown}
 use Rattle.flattening.proofs.Joining.{gap-length}
 use Rattle.flattening.proofs.Telling.{none-told, none-last}
 use Rattle.flattening.proofs.Shapes.{span-bytes, span-size, span-tail, span-silent, span-counted, span-ends, span-lead-within, span-tail-within, last-within}
@@ -51,7 +48,7 @@ module _ (s : List ℕ) (items : Items) (span : Span) (shape : Shape) (is : shap
     pub silent-out : (out : List ℕ) (at : ℕ) → out ≡ sets out at (partBytes s past (spanRows items span before))
     silent-out out at = ap (sets out at) (sym none-bytes)
 
-  pub again-lead : Rises items span → shape .lead ≤ span .lasts
+  pub again-lead : SpanRises items span → shape .lead ≤ span .lasts
   again-lead rises = omega (arith, span-lead-within s items span rises, ap (λ (x : Shape). x .lead) is)
 
   pub again-tail : shape .tail ≤ span .lasts
@@ -73,7 +70,7 @@ module _ (s : List ℕ) (items : Items) (span : Span) (shape : Shape) (is : shap
         span-size s items span before past loud
         ∙ ap₂ (λ (g n : ℕ). gapSize g + n) (sym gap-is) (sym (ap (λ (x : Shape). x .bytes) is))
 
-    pub again-past : (last : ℕ) → Rises items span → last ≡ before + span .lasts - shape .tail → last ≡ partLast s past (spanRows items span before)
+    pub again-past : (last : ℕ) → SpanRises items span → last ≡ before + span .lasts - shape .tail → last ≡ partLast s past (spanRows items span before)
     again-past last rises e =
         omega (arith, e, ap (λ (x : Shape). x .tail) is, span-tail s items span before past loud, last-within s past before (before + span .lasts) rows early (rises before))
 

@@ -84,8 +84,8 @@ abbrev pub WrittenWhereKnown : List ℕ → ℕ → List ℕ → ℕ → Type 0
 WrittenWhereKnown bytes place out at = (place ≡ 0 → ⊥) → Written bytes place out at
 
 -- the steps of a span never fall, and none is past where it ends
-abbrev pub Rises : Items → Span → Type 0
-Rises items span = (before : ℕ) → Rising before (before + span .lasts) (spanRows items span before)
+abbrev pub SpanRises : Items → Span → Type 0
+SpanRises items span = (before : ℕ) → Rising before (before + span .lasts) (spanRows items span before)
 
 -- nothing is counted yet
 abbrev pub silence : Outline

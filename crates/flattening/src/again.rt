@@ -9,7 +9,7 @@ ghost use lib.Seq.{sets};
 ghost use Rattle.model.specs.Bytes.{part};
 ghost use Rattle.model.specs.Item.{bodyOf, isFine, itemsOf};
 ghost use Rattle.sections.specs.Spans.{spanRows, Playable};
-ghost use Rattle.flattening.specs.Parts.{partBytes, partLast, gapBytes, gapSize, spanShape, spanBytes, Rises, WrittenWhereKnown};
+ghost use Rattle.flattening.specs.Parts.{partBytes, partLast, gapBytes, gapSize, spanShape, spanBytes, SpanRises, WrittenWhereKnown};
 use super::gaps::write_gap;
 use super::section::write_messages;
 use model::Shape;
@@ -79,7 +79,7 @@ pub fn write_section(
     requires { ⌜ isFine (bodyOf voice (now body)) ≡ true ⌝ }
     requires { ⌜ Playable (itemsOf voice (now body)) (length (now body)) span ⌝ }
     requires { ⌜ shape ≡ spanShape (now body) (itemsOf voice (now body)) span ⌝ }
-    requires { ⌜ Rises (itemsOf voice (now body)) span ⌝ }
+    requires { ⌜ SpanRises (itemsOf voice (now body)) span ⌝ }
     requires { ⌜ before + span .lasts ≤ 4611686018427387904 ⌝ }
     requires { ⌜ past ≤ before ⌝ }
     requires { ⌜ at + length (partBytes (now body) past (spanRows (itemsOf voice (now body)) span before)) ≤ length (now out) ⌝ }

@@ -8,11 +8,9 @@ ghost use Rattle.model.specs.Item.{bodyOf, isFine, itemsOf};
 ghost use Rattle.model.specs.Answer.{flattenAnswer, flattenRoom};
 ghost use Rattle.playing.specs.Performing.{AllPlayable, AllRise, AllShort, lastsTogether};
 ghost use Rattle.flattening.specs.Orders.{orderBytes, AllShaped, fitted};
-use super::OrderSize;
 use super::again::write_section;
 use super::gaps::write_rest;
-use super::outlines::shape_letters;
-use super::sizes::size_order;
+use super::sizes::measure_order;
 use model::FlattenAnswer;
 use model::Shape;
 use model::Span;
@@ -79,22 +77,21 @@ pub fn flatten_order(
     ensures { λ r. ⌜ r ≡ flattenAnswer (fitted header (length (now (out .entry))) (orderBytes (now (body .entry)) (itemsOf voice (now (body .entry))) spans 0 0 (now (letters .entry)))) ⌝ }
     ensures { λ _. ⌜ now (out .exit) ≡ flattenRoom (now (out .entry)) (fitted header (length (now (out .entry))) (orderBytes (now (body .entry)) (itemsOf voice (now (body .entry))) spans 0 0 (now (letters .entry)))) ⌝ }
 {
-    let shapes = shape_letters(voice, body, spans, letters);
-    match size_order(shapes, letters) {
-        OrderSize::Over => FlattenAnswer::Refused {
+    let measure = measure_order(voice, body, spans, letters);
+    if 65536 < measure.bytes {
+        return FlattenAnswer::Refused {
             number: 18,
             place: header,
-        },
-        OrderSize::Bytes { length } => {
-            if out.len() < length {
-                return FlattenAnswer::Refused {
-                    number: 18,
-                    place: header,
-                };
-            }
-            FlattenAnswer::Bytes {
-                length: write_order(voice, body, spans, shapes, letters, out),
-            }
-        }
+        };
+    }
+    if out.len() < measure.bytes {
+        return FlattenAnswer::Refused {
+            number: 18,
+            place: header,
+        };
+    }
+    let shapes = measure.shapes;
+    FlattenAnswer::Bytes {
+        length: write_order(voice, body, spans, shapes, letters, out),
     }
 }
