@@ -1,82 +1,20 @@
 -- 18, or the plain form of an order: what its size tells before a byte is written.
-use Prim.Native.Nat.{ℕ, _+_, _<_, _≤_}
-use mathlib.Core.Bool.{true, false}
-use mathlib.Core.List.{List, [], _∷_, _++_}
-use mathlib.Core.Path.{_≡_, refl, sym, _∙_, ap, subst}
+use Prim.Native.Nat.{ℕ, _<_, _≤_}
+use mathlib.Core.List.{List, _++_}
+use mathlib.Core.Path.{_≡_, sym, _∙_, ap}
 use lib.ListN.{length, drop}
 use lib.Seq.{sets, sets-eq}
 use native.Mathlib.Nat.{zero-add}
 use native.Mathlib.Omega.{arith}
-use borrow.Author.Tests.{lt-ltb, le-ltb, ltb-false, ltb-true}
-use Rattle.model.specs.Words.{if_then_else_, _or_, _<?_, Checked, Checked.fine, Checked.refused}
-use Rattle.model.specs.Bytes.{_!_}
-use Rattle.model.specs.Item.{bodyOf, isFine, itemsOf}
-use Rattle.model.specs.Play.{At}
-use Rattle.model.specs.Content.{Content}
+use borrow.Author.Tests.{lt-ltb, le-ltb}
+use Rattle.model.specs.Words.{if_then_else_, _or_, Checked, Checked.fine, Checked.refused}
 use Rattle.model.specs.Answer.{writtenOver, memoryAfter, flattenAnswer, flattenRoom}
-use Rattle.model.specs.declared.Voice.{Voice}
-use Rattle.model.specs.declared.Event.{Event}
 use Rattle.model.specs.declared.Span.{Span}
-use Rattle.model.specs.declared.Shape.{Shape}
-use Rattle.model.specs.declared.FlattenAnswer.{FlattenAnswer}
 use Rattle.model.specs.declared.FlattenAnswer.the-variants as flatten
-use Rattle.model.proofs.Tests.{by-test}
-use Rattle.sections.specs.Spans.{Items, spanRows, Rising}
-use Rattle.playing.specs.Performing.{spanAt, AllShort, AllRise}
+use Rattle.sections.specs.Spans.{Items}
 use Rattle.playing.proofs.Together.{short-enough}
-use Rattle.flattening.specs.declared.OrderSize.{OrderSize}
-use Rattle.flattening.specs.declared.OrderSize.the-variants.{Bytes, Over}
-use Rattle.flattening.specs.Parts.{told, shapeOf, spanShape}
-use Rattle.flattening.specs.Orders.{orderBytes, shapeAt, sizeAfter, nothing, sizeAnswer, Slight, AllSlight, AllShaped, AllLight, fitted}
-use Rattle.flattening.proofs.Sizing.{order-sized}
-
--- what a shape says lies within its span
-lead-within : (s : List ℕ) (lasts : ℕ) (rows : List (At Event)) → Rising 0 lasts rows → shapeOf lasts (told s rows) .lead ≤ lasts
-unfolding shapeOf told
-lead-within s lasts [] rising = omega arith
-lead-within s lasts (row ∷ rows) rising = later (row .step) rows (rising .1)
-  where
-    later : (low : ℕ) (others : List (At Event)) → Rising low lasts others → low ≤ lasts
-    later low [] r = r
-    later low (other ∷ others) r = let h = later (other .step) others (r .1) in omega arith
-
-tail-within : (s : List ℕ) (lasts : ℕ) (rows : List (At Event)) → shapeOf lasts (told s rows) .tail ≤ lasts
-unfolding shapeOf told
-tail-within s lasts [] = omega arith
-tail-within s lasts (row ∷ rows) = omega arith
-
-module _ (s : List ℕ) (items : Items) (spans : List Span) (shapes : List Shape) (letters : List ℕ) where
-  pub all-slight : AllShaped s items spans shapes letters → AllLight shapes letters → AllRise items spans letters → AllShort spans letters → AllSlight shapes letters
-  unfolding spanShape
-  all-slight shaped light rises short i h =
-      let span = spanAt spans (letters ! i) in
-      let rows = spanRows items span 0 in
-      let is = shaped i h in
-      let lead = lead-within s (span .lasts) rows (subst (λ (n : ℕ). Rising 0 n rows) (zero-add (span .lasts)) (rises i h 0)) in
-      let tail = tail-within s (span .lasts) rows in
-      record {
-        lead = omega (arith, ap (λ (shape : Shape). shape .lead) is, short i h);
-        tail = omega (arith, ap (λ (shape : Shape). shape .tail) is, short i h);
-        bytes = light i h;
-      }
-
-  pub size-is : AllShaped s items spans shapes letters → AllRise items spans letters → sizeAfter shapes nothing letters ≡ length (orderBytes s items spans 0 0 letters)
-  size-is shaped rises = order-sized s items spans shapes letters 0 0 0 (omega arith) shaped rises ∙ zero-add _
-
--- what a size tells
-
-over-is : (many : ℕ) → Over ≡ sizeAnswer many → 65536 < many
-unfolding sizeAnswer if_then_else_
-over-is many e =
-    by-test (65536 <? many) (λ h. ltb-true 65536 many h)
-    (λ h. let q = simp h at e in let z : _≡_ {A = ℕ} 0 1 = cc in absurd (omega arith))
-
-bytes-is : (many found : ℕ) → Bytes found ≡ sizeAnswer many → (found ≡ many) × (many ≤ 65536)
-unfolding sizeAnswer if_then_else_
-bytes-is many found e =
-    by-test (65536 <? many)
-    (λ h. let q = simp h at e in let z : _≡_ {A = ℕ} 0 1 = cc in absurd (omega arith))
-    (λ h. let q : Bytes found ≡ Bytes many = simp h at e in (cc, ltb-false 65536 many h))
+use Rattle.flattening.specs.declared.Measure.{Measure}
+use Rattle.flattening.specs.Orders.{orderBytes, AllShaped, Measured, fitted}
 
 module _ (header room : ℕ) (bytes : List ℕ) where
   too-long : 65536 < length bytes → fitted header room bytes ≡ refused 18 header
@@ -100,45 +38,52 @@ module _ (o : Checked (List ℕ)) (number place : ℕ) (is : o ≡ refused numbe
   unfolding flattenRoom memoryAfter
   refused-room l = ap (flattenRoom l) (sym is)
 
-module _ (header : ℕ) (l bytes : List ℕ) (many : ℕ) (is : many ≡ length bytes) (r : OrderSize) (told-size : r ≡ sizeAnswer many) where
-  module _ (e : r ≡ Over) where
-    over : fitted header (length l) bytes ≡ refused 18 header
-    over = too-long header (length l) bytes (omega (arith, is, over-is many (sym e ∙ told-size)))
+module _ (s : List ℕ) (items : Items) (spans : List Span) (letters : List ℕ) (measure : Measure) (m : Measured s items spans letters measure) where
+  abbrev whole : List ℕ
+  whole = orderBytes s items spans 0 0 letters
 
-    pub over-answer : flatten.Refused 18 header ≡ flattenAnswer (fitted header (length l) bytes)
+  module _ (header : ℕ) (l : List ℕ) (long : 65536 < measure .bytes) where
+    over : fitted header (length l) whole ≡ refused 18 header
+    over = too-long header (length l) whole (m .over long)
+
+    pub over-answer : flatten.Refused 18 header ≡ flattenAnswer (fitted header (length l) (orderBytes s items spans 0 0 letters))
     over-answer = refused-answer _ 18 header over
 
-    pub over-room : l ≡ flattenRoom l (fitted header (length l) bytes)
+    pub over-room : l ≡ flattenRoom l (fitted header (length l) (orderBytes s items spans 0 0 letters))
     over-room = refused-room _ 18 header over l
 
-  module _ (found : ℕ) (e : r ≡ Bytes found) where
-    found-is : (found ≡ many) × (many ≤ 65536)
-    found-is = bytes-is many found (sym e ∙ told-size)
+  module _ (within : measure .bytes ≤ 65536) where
+    pub measured-shapes : AllShaped s items spans (measure .shapes) letters
+    measured-shapes = m .shaped within
 
-    module _ (small : length l < found) where
-      short : fitted header (length l) bytes ≡ refused 18 header
-      short = no-room header (length l) bytes (omega (arith, is, found-is .0, found-is .1)) (omega (arith, is, found-is .0))
+    module _ (l : List ℕ) where
+      module _ (header : ℕ) (small : length l < measure .bytes) where
+        short : fitted header (length l) whole ≡ refused 18 header
+        short = no-room header (length l) whole (omega (arith, m .size within)) (omega (arith, m .size within))
 
-      pub short-answer : flatten.Refused 18 header ≡ flattenAnswer (fitted header (length l) bytes)
-      short-answer = refused-answer _ 18 header short
+        pub short-answer : flatten.Refused 18 header ≡ flattenAnswer (fitted header (length l) (orderBytes s items spans 0 0 letters))
+        short-answer = refused-answer _ 18 header short
 
-      pub short-room : l ≡ flattenRoom l (fitted header (length l) bytes)
-      short-room = refused-room _ 18 header short l
+        pub short-room : l ≡ flattenRoom l (fitted header (length l) (orderBytes s items spans 0 0 letters))
+        short-room = refused-room _ 18 header short l
 
-    module _ (enough : found ≤ length l) where
-      pub fits-room : length bytes ≤ length l
-      fits-room = omega (arith, is, found-is .0)
+      module _ (enough : measure .bytes ≤ length l) where
+        pub fits-room : length (orderBytes s items spans 0 0 letters) ≤ length l
+        fits-room = omega (arith, m .size within)
 
-      fits : fitted header (length l) bytes ≡ fine bytes
-      fits = all-fits header (length l) bytes (omega (arith, is, found-is .1)) fits-room
+        module _ (header : ℕ) where
+          fits : fitted header (length l) whole ≡ fine whole
+          fits = all-fits header (length l) whole (omega (arith, m .size within)) fits-room
 
-      pub fits-answer : (n : ℕ) → n ≡ length bytes → flatten.Bytes n ≡ flattenAnswer (fitted header (length l) bytes)
-      unfolding flattenAnswer
-      fits-answer n q = ap (λ (k : ℕ). flatten.Bytes k) q ∙ ap flattenAnswer (sym fits)
+          pub fits-answer : (n : ℕ) → n ≡ length (orderBytes s items spans 0 0 letters)
+              → flatten.Bytes n ≡ flattenAnswer (fitted header (length l) (orderBytes s items spans 0 0 letters))
+          unfolding flattenAnswer
+          fits-answer n q = ap (λ (k : ℕ). flatten.Bytes k) q ∙ ap flattenAnswer (sym fits)
 
-      pub fits-written : (m : List ℕ) → m ≡ sets l 0 bytes → m ≡ flattenRoom l (fitted header (length l) bytes)
-      unfolding flattenRoom memoryAfter writtenOver
-      fits-written m q =
-          q ∙ sets-eq bytes l 0 (omega (arith, fits-room)) ∙ ap (λ (n : ℕ). bytes ++ drop n l) (zero-add (length bytes)) ∙ ap (flattenRoom l) (sym fits)
+          pub fits-written : (k : List ℕ) → k ≡ sets l 0 (orderBytes s items spans 0 0 letters)
+              → k ≡ flattenRoom l (fitted header (length l) (orderBytes s items spans 0 0 letters))
+          unfolding flattenRoom memoryAfter writtenOver
+          fits-written k q =
+              q ∙ sets-eq whole l 0 (omega (arith, fits-room)) ∙ ap (λ (n : ℕ). whole ++ drop n l) (zero-add (length whole)) ∙ ap (flattenRoom l) (sym fits)
 
-pub ruleset flattened-order = (all-slight, size-is, short-enough, over-answer, over-room, short-answer, short-room, fits-room, fits-answer, fits-written)
+pub ruleset flattened-order = (over-answer, over-room, measured-shapes, short-enough, short-answer, short-room, fits-room, fits-answer, fits-written)

@@ -12,7 +12,7 @@ use Rattle.model.specs.Content.{Content, contentOf, contentBytes, handyPhone}
 use Rattle.model.specs.Writing.{timedBytes}
 use Rattle.model.specs.declared.Event.{Event}
 use Rattle.plain.proofs.PlainItems.{bytes-append}
-use Rattle.flattening.specs.Parts.{plainPart, lastStep, told, partBytes, messageBytes, gapSize}
+use Rattle.flattening.specs.Parts.{plainPart, lastStep, told, partBytes, messageBytes, gapBytes, gapSize, bytesAfterGap}
 
 -- THE PARTS MAKE THE WHOLE: the messages of a part, then those after it
 pub plain-append : (past : ℕ) (one two : List (At Content)) (end : ℕ)
@@ -50,14 +50,31 @@ pub part-first : (body : List ℕ) (past step : ℕ) (event : Event) (rows : Lis
 unfolding partBytes told messageBytes timedBytes itemBytes
 part-first body past step event rows = first-bytes past (record { step = step; event = contentOf body event }) (told body rows)
 
-pub first-length : (past : ℕ) (at : At Content) (messages : List (At Content))
-    → length (bytesOf handyPhone (plainPart past (at ∷ messages)))
-    ≡ gapSize (at .step - past) + (length (contentBytes (at .event)) + length (bytesOf handyPhone (plainPart (at .step) messages)))
-unfolding gapSize
-first-length past at messages =
+pub gap-length : (gap : ℕ) → length (gapBytes gap) ≡ gapSize gap
+unfolding gapBytes gapSize
+gap-length gap = length-append (bytesOf handyPhone (waits handyPhone gap)) (durationBytes (left 16511 gap))
+
+-- the gap to the first message of a part, and what is written after it
+pub first-after-gap : (past : ℕ) (at : At Content) (messages : List (At Content))
+    → bytesOf handyPhone (plainPart past (at ∷ messages)) ≡ gapBytes (at .step - past) ++ bytesAfterGap (at ∷ messages)
+unfolding gapBytes bytesAfterGap
+first-after-gap past at messages =
     let gap = bytesOf handyPhone (waits handyPhone (at .step - past)) in
     let duration = durationBytes (left 16511 (at .step - past)) in
     let content = contentBytes (at .event) in
     let rest = bytesOf handyPhone (plainPart (at .step) messages) in
-    ap length (first-bytes past at messages)
-    ∙ omega (arith, length-append (gap ++ (duration ++ content)) rest, length-append gap (duration ++ content), length-append duration content)
+    first-bytes past at messages
+    ∙ ap (λ (bytes : List ℕ). bytes ++ rest) (sym (append-assoc gap duration content))
+    ∙ append-assoc (gap ++ duration) content rest
+
+pub after-gap-length : (at : At Content) (messages : List (At Content))
+    → length (bytesAfterGap (at ∷ messages)) ≡ length (contentBytes (at .event)) + length (bytesOf handyPhone (plainPart (at .step) messages))
+unfolding bytesAfterGap
+after-gap-length at messages = length-append (contentBytes (at .event)) (bytesOf handyPhone (plainPart (at .step) messages))
+
+pub first-length : (past : ℕ) (at : At Content) (messages : List (At Content))
+    → length (bytesOf handyPhone (plainPart past (at ∷ messages)))
+    ≡ gapSize (at .step - past) + (length (contentBytes (at .event)) + length (bytesOf handyPhone (plainPart (at .step) messages)))
+first-length past at messages =
+    ap length (first-after-gap past at messages)
+    ∙ omega (arith, length-append (gapBytes (at .step - past)) (bytesAfterGap (at ∷ messages)), gap-length (at .step - past), after-gap-length at messages)

@@ -5,10 +5,10 @@ pub mod Fitting
 pub mod Ahead
 pub mod Telling
 pub mod Shapes
+pub mod WrittenAgain
 pub mod Shaping
 pub mod Ordering
 pub mod Sizing
-pub mod Shaped
 pub mod Flattened
 pub mod TrackFlattened
 pub mod Operations

@@ -4,7 +4,7 @@ use mathlib.Core.Bool.{true, false}
 use mathlib.Core.List.{List, [], _∷_, _++_, map}
 use mathlib.Core.Path.{_≡_, refl, sym, _∙_, ap, subst}
 use lib.Dec.{T}
-use lib.ListN.{length, take}
+use lib.ListN.{length, take, length-append}
 use native.Mathlib.Nat.{add-zero, zero-add, sub-zero}
 use native.Mathlib.Omega.{arith}
 use Rattle.model.specs.Words.{if_then_else_}
@@ -15,9 +15,10 @@ use Rattle.model.specs.Content.{Content, contentOf, contentBytes, handyPhone}
 use Rattle.model.specs.declared.Event.{Event}
 use Rattle.model.specs.declared.Outline.{Outline}
 use Rattle.model.specs.declared.Span.{Span}
+use Rattle.model.proofs.Tests.{by-test}
 use Rattle.sections.specs.Spans.{Items, messagesAfter, itemsFrom, counted, spanRows, Rising}
-use Rattle.flattening.specs.Parts.{plainPart, lastStep, told, partBytes, partLast, gapSize, shapeOf, spanShape, silence, joined, shaped}
-use Rattle.flattening.proofs.Joining.{first-length}
+use Rattle.flattening.specs.Parts.{plainPart, lastStep, told, partBytes, partLast, gapBytes, gapSize, shapeOf, spanShape, bytesAfterGap, spanBytes, SpanRises, silence, joined, shaped}
+use Rattle.flattening.proofs.Joining.{gap-length, first-after-gap, after-gap-length, first-length}
 
 -- rows joined to an outline one after the other
 unfoldable pub outlined : List ℕ → Outline → List (At Event) → Outline
@@ -76,20 +77,19 @@ module _ (s : List ℕ) (before start : ℕ) where
 
   -- what the shape of the rows with nothing before tells of the rows
   module _ (lasts past : ℕ) where
-    messages-size : (messages : List (At Event)) → shapeOf lasts (told s (rowsAt 0 messages)) .heard ≡ true
-        → length (partBytes s past (rowsAt before messages))
-        ≡ gapSize (before + shapeOf lasts (told s (rowsAt 0 messages)) .lead - past) + shapeOf lasts (told s (rowsAt 0 messages)) .bytes
-    unfolding shapeOf told partBytes
-    messages-size [] h = absurd (subst T (sym h) tt)
-    messages-size (at ∷ messages) h =
+    messages-bytes : (messages : List (At Event)) → shapeOf lasts (told s (rowsAt 0 messages)) .heard ≡ true
+        → partBytes s past (rowsAt before messages)
+        ≡ gapBytes (before + shapeOf lasts (told s (rowsAt 0 messages)) .lead - past) ++ bytesAfterGap (told s (rowsAt 0 messages))
+    unfolding shapeOf told partBytes bytesAfterGap
+    messages-bytes [] h = absurd (subst T (sym h) tt)
+    messages-bytes (at ∷ messages) h =
         let step = at .step - start in
         let what = contentOf s (at .event) in
         let others = plainPart (0 + step) (told s (rowsAt 0 messages)) in
         let same = later-part step messages ∙ ap (λ (n : ℕ). plainPart n (told s (rowsAt 0 messages))) (sym (zero-add step)) in
-        let first = first-length past (record { step = before + step; event = what }) (told s (rowsAt before messages)) in
-        first
-        ∙ ap (λ (items : List (Item Content)). gapSize (before + step - past) + (length (contentBytes what) + length (bytesOf handyPhone items))) same
-        ∙ ap (λ (n : ℕ). gapSize (before + n - past) + (length (contentBytes what) + length (bytesOf handyPhone others))) (sym (zero-add step))
+        first-after-gap past (record { step = before + step; event = what }) (told s (rowsAt before messages))
+        ∙ ap (λ (items : List (Item Content)). gapBytes (before + step - past) ++ (contentBytes what ++ bytesOf handyPhone items)) same
+        ∙ ap (λ (n : ℕ). gapBytes (before + n - past) ++ (contentBytes what ++ bytesOf handyPhone others)) (sym (zero-add step))
 
     messages-tail : (messages : List (At Event)) → shapeOf lasts (told s (rowsAt 0 messages)) .heard ≡ true
         → before + lasts - partLast s past (rowsAt before messages) ≡ shapeOf lasts (told s (rowsAt 0 messages)) .tail
@@ -105,16 +105,32 @@ module _ (s : List ℕ) (before start : ℕ) where
     messages-silent [] h = refl
     messages-silent (at ∷ messages) h = absurd (subst T h tt)
 
+-- the bytes after the gap to the first message are as many as the shape says
+after-gap-counted : (lasts : ℕ) (messages : List (At Content)) → length (bytesAfterGap messages) ≡ shapeOf lasts messages .bytes
+unfolding bytesAfterGap shapeOf
+after-gap-counted lasts [] = refl
+after-gap-counted lasts (first ∷ others) = after-gap-length first others
+
+pub span-counted : (s : List ℕ) (items : Items) (span : Span) → length (spanBytes s items span) ≡ spanShape s items span .bytes
+unfolding spanBytes spanShape
+span-counted s items span = after-gap-counted (span .lasts) (told s (spanRows items span 0))
+
 module _ (s : List ℕ) (items : Items) (span : Span) (before past : ℕ) where
   abbrev messages : List (At Event)
   messages = take (span .messages) (messagesAfter (span .past) (itemsFrom (span .first) items))
 
   module _ (heard : spanShape s items span .heard ≡ true) where
-    -- THE SIZE of a span's messages: the gap before the first, and what the shape says
+    -- THE BYTES of a span's messages: the gap before the first, and those that are the same wherever the span is played
+    pub span-bytes : partBytes s past (spanRows items span before) ≡ gapBytes (before + spanShape s items span .lead - past) ++ spanBytes s items span
+    unfolding spanShape spanBytes spanRows
+    span-bytes = messages-bytes s before (span .start) (span .lasts) past messages heard
+
+    -- how many they are
     pub span-size : length (partBytes s past (spanRows items span before))
         ≡ gapSize (before + spanShape s items span .lead - past) + spanShape s items span .bytes
-    unfolding spanShape spanRows
-    span-size = messages-size s before (span .start) (span .lasts) past messages heard
+    span-size =
+        let gap = before + spanShape s items span .lead - past in
+        ap length span-bytes ∙ omega (arith, length-append (gapBytes gap) (spanBytes s items span), gap-length gap, span-counted s items span)
 
     -- from the last message to the end of the span
     pub span-tail : before + span .lasts - partLast s past (spanRows items span before) ≡ spanShape s items span .tail
@@ -125,6 +141,43 @@ module _ (s : List ℕ) (items : Items) (span : Span) (before past : ℕ) where
   pub span-silent : spanShape s items span .heard ≡ false → spanRows items span before ≡ []
   unfolding spanShape spanRows
   span-silent h = messages-silent s before (span .start) (span .lasts) past messages h
+
+none-written : (s : List ℕ) (items : Items) (span : Span) (before past : ℕ) → spanShape s items span .heard ≡ false
+    → partBytes s past (spanRows items span before) ≡ spanBytes s items span
+unfolding partBytes spanBytes told plainPart bytesOf bytesAfterGap
+none-written s items span before past h = rw (span-silent s items span before past h, span-silent s items span 0 past h) refl
+
+-- what is written of a span ends with those bytes, whether it is heard or silent
+pub span-ends : (s : List ℕ) (items : Items) (span : Span) (before past : ℕ)
+    → (front : List ℕ) × (partBytes s past (spanRows items span before) ≡ front ++ spanBytes s items span)
+span-ends s items span before past =
+    by-test (spanShape s items span .heard) (λ h. (gapBytes _, span-bytes s items span before past h)) (λ h. ([], none-written s items span before past h))
+
+-- what a shape says lies within its span
+lead-within : (s : List ℕ) (lasts : ℕ) (rows : List (At Event)) → Rising 0 lasts rows → shapeOf lasts (told s rows) .lead ≤ lasts
+unfolding shapeOf told
+lead-within s lasts [] rising = omega arith
+lead-within s lasts (row ∷ rows) rising = later (row .step) rows (rising .1)
+  where
+    later : (low : ℕ) (others : List (At Event)) → Rising low lasts others → low ≤ lasts
+    later low [] r = r
+    later low (other ∷ others) r = let h = later (other .step) others (r .1) in omega arith
+
+tail-within : (s : List ℕ) (lasts : ℕ) (rows : List (At Event)) → shapeOf lasts (told s rows) .tail ≤ lasts
+unfolding shapeOf told
+tail-within s lasts [] = omega arith
+tail-within s lasts (row ∷ rows) = omega arith
+
+module _ (s : List ℕ) (items : Items) (span : Span) where
+  pub span-lead-within : SpanRises items span → spanShape s items span .lead ≤ span .lasts
+  unfolding spanShape
+  span-lead-within rises =
+      let rows = spanRows items span 0 in
+      lead-within s (span .lasts) rows (subst (λ (n : ℕ). Rising 0 n rows) (zero-add (span .lasts)) (rises 0))
+
+  pub span-tail-within : spanShape s items span .tail ≤ span .lasts
+  unfolding spanShape
+  span-tail-within = tail-within s (span .lasts) (spanRows items span 0)
 
 -- the last of steps that never fall is at most their end
 pub last-within : (s : List ℕ) (past low high : ℕ) (rows : List (At Event)) → past ≤ low → Rising low high rows → partLast s past rows ≤ high

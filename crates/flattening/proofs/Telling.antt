@@ -54,11 +54,11 @@ module _ (s : List ℕ) (gap : ℕ) (event : Event) where
 
 pub ruleset message = (waits-room, item-room, message-next-place, message-wrote)
 
-none-told : (s : List ℕ) (past : ℕ) → partBytes s past [] ≡ []
+pub none-told : (s : List ℕ) (past : ℕ) → partBytes s past [] ≡ []
 unfolding partBytes told plainPart bytesOf
 none-told s past = refl
 
-none-last : (s : List ℕ) (past : ℕ) → partLast s past [] ≡ past
+pub none-last : (s : List ℕ) (past : ℕ) → partLast s past [] ≡ past
 unfolding partLast told lastStep
 none-last s past = refl
 

@@ -15,13 +15,13 @@ use Rattle.model.proofs.Tests.{by-test}
 use Rattle.model.proofs.Stores.{sets-append}
 use Rattle.plain.proofs.Gaps.{left-short, waits-none, waits-more}
 use Rattle.plain.proofs.PlainItems.{bytes-append}
-use Rattle.flattening.specs.Parts.{gapSize}
+use Rattle.flattening.specs.Parts.{gapBytes, gapSize}
 
 abbrev waitBytes : List ℕ
 waitBytes = 0xFF ∷ 0x7F ∷ 0xFF ∷ 0x00 ∷ []
 
-abbrev gapBytes : ℕ → List ℕ
-gapBytes gap = bytesOf handyPhone (waits handyPhone gap)
+abbrev waitsBytes : ℕ → List ℕ
+waitsBytes gap = bytesOf handyPhone (waits handyPhone gap)
 
 -- how often and how much is left
 module _ (gap : ℕ) where
@@ -57,15 +57,15 @@ unfolding bytesOf
 repeated-length zero = refl
 repeated-length (suc count) = ap length (wait-first (replicate count (timed 16511 nop))) ∙ omega (arith, repeated-length count)
 
-waits-length : (gap : ℕ) → length (gapBytes gap) ≡ times 16511 gap * 4
+waits-length : (gap : ℕ) → length (waitsBytes gap) ≡ times 16511 gap * 4
 unfolding waits
 waits-length gap = repeated-length (times 16511 gap)
 
 module _ (gap : ℕ) where
-  pub waits-sized : (n : ℕ) → n ≡ times 16511 gap → n * 4 ≡ length (gapBytes gap)
+  pub waits-sized : (n : ℕ) → n ≡ times 16511 gap → n * 4 ≡ length (waitsBytes gap)
   waits-sized n is = ap (λ (m : ℕ). m * 4) is ∙ sym (waits-length gap)
 
-  pub gap-sized : (n d v : ℕ) → n ≡ length (gapBytes gap) → v ≡ left 16511 gap → d ≡ length (durationBytes v) → n + d ≡ gapSize gap
+  pub gap-sized : (n d v : ℕ) → n ≡ length (waitsBytes gap) → v ≡ left 16511 gap → d ≡ length (durationBytes v) → n + d ≡ gapSize gap
   unfolding gapSize
   gap-sized n d v p q r = omega (arith, p, r ∙ ap (λ (x : ℕ). length (durationBytes x)) q)
 
@@ -75,25 +75,25 @@ module _ (gap : ℕ) where
   rest-none e = simp eq-eqb
 
   module _ (v : ℕ) (is : v ≡ left 16511 gap) where
-    pub rest-none-sized : (n : ℕ) → v ≡ 0 → n ≡ length (gapBytes gap) → n ≡ length (bytesOf handyPhone (rest handyPhone gap))
+    pub rest-none-sized : (n : ℕ) → v ≡ 0 → n ≡ length (waitsBytes gap) → n ≡ length (bytesOf handyPhone (rest handyPhone gap))
     rest-none-sized n e p = p ∙ ap (λ (items : List (Item Content)). length (bytesOf handyPhone items)) (sym (rest-none (sym is ∙ e)))
 
     module _ (some : v ≡ 0 → ⊥) where
-      rest-bytes : bytesOf handyPhone (rest handyPhone gap) ≡ gapBytes gap ++ (durationBytes v ++ (0xFF ∷ 0x00 ∷ []))
+      rest-bytes : bytesOf handyPhone (rest handyPhone gap) ≡ waitsBytes gap ++ (durationBytes v ++ (0xFF ∷ 0x00 ∷ []))
       unfolding rest if_then_else_ bytesOf itemBytes contentBytes
       rest-bytes =
           let over : left 16511 gap ≡ 0 → ⊥ = λ e. some (is ∙ e) in
           simp ne-eqb
           (bytes-append Content handyPhone (waits handyPhone gap) (timed (left 16511 gap) nop ∷ [])
-          ∙ ap (λ (bytes : List ℕ). gapBytes gap ++ bytes) (append-nil (durationBytes (left 16511 gap) ++ (0xFF ∷ 0x00 ∷ [])))
-          ∙ ap (λ (x : ℕ). gapBytes gap ++ (durationBytes x ++ (0xFF ∷ 0x00 ∷ []))) (sym is))
+          ∙ ap (λ (bytes : List ℕ). waitsBytes gap ++ bytes) (append-nil (durationBytes (left 16511 gap) ++ (0xFF ∷ 0x00 ∷ [])))
+          ∙ ap (λ (x : ℕ). waitsBytes gap ++ (durationBytes x ++ (0xFF ∷ 0x00 ∷ []))) (sym is))
 
-      rest-length : length (bytesOf handyPhone (rest handyPhone gap)) ≡ length (gapBytes gap) + (length (durationBytes v) + 2)
+      rest-length : length (bytesOf handyPhone (rest handyPhone gap)) ≡ length (waitsBytes gap) + (length (durationBytes v) + 2)
       rest-length =
-          ap length rest-bytes ∙ length-append (gapBytes gap) (durationBytes v ++ (0xFF ∷ 0x00 ∷ []))
-          ∙ ap (λ (n : ℕ). length (gapBytes gap) + n) (length-append (durationBytes v) (0xFF ∷ 0x00 ∷ []))
+          ap length rest-bytes ∙ length-append (waitsBytes gap) (durationBytes v ++ (0xFF ∷ 0x00 ∷ []))
+          ∙ ap (λ (n : ℕ). length (waitsBytes gap) + n) (length-append (durationBytes v) (0xFF ∷ 0x00 ∷ []))
 
-      pub rest-sized : (n d : ℕ) → n ≡ length (gapBytes gap) → d ≡ length (durationBytes v) → n + d + 2 ≡ length (bytesOf handyPhone (rest handyPhone gap))
+      pub rest-sized : (n d : ℕ) → n ≡ length (waitsBytes gap) → d ≡ length (durationBytes v) → n + d + 2 ≡ length (bytesOf handyPhone (rest handyPhone gap))
       rest-sized n d p q = omega (arith, rest-length)
 
 pub ruleset sizes = (no-times, some-times, times-within, left-is, left-small, left-fits, waits-sized, gap-sized, rest-none-sized, rest-sized)
@@ -101,17 +101,17 @@ pub ruleset sizes = (no-times, some-times, times-within, left-is, left-small, le
 -- the waits, written
 pub record Waiting (l : List ℕ) (at gap : ℕ) (out : List ℕ) (place more : ℕ) : Type 0 where
   pub same : length out ≡ length l
-  pub size : place + length (gapBytes more) ≡ at + length (gapBytes gap)
-  pub room : at + length (gapBytes gap) ≤ length out
-  pub whole : sets out place (gapBytes more) ≡ sets l at (gapBytes gap)
+  pub size : place + length (waitsBytes more) ≡ at + length (waitsBytes gap)
+  pub room : at + length (waitsBytes gap) ≤ length out
+  pub whole : sets out place (waitsBytes more) ≡ sets l at (waitsBytes gap)
 
 module _ (l : List ℕ) (at gap : ℕ) where
-  pub wait-starts : at + length (gapBytes gap) ≤ length l → Waiting l at gap l at gap
+  pub wait-starts : at + length (waitsBytes gap) ≤ length l → Waiting l at gap l at gap
   wait-starts room = record { same = refl; size = refl; room = room; whole = refl }
 
   module _ (out : List ℕ) (place more : ℕ) (w : Waiting l at gap out place more) where
     module _ (long : 16511 < more) where
-      ahead : gapBytes more ≡ waitBytes ++ gapBytes (more - 16511)
+      ahead : waitsBytes more ≡ waitBytes ++ waitsBytes (more - 16511)
       ahead = ap (bytesOf handyPhone) (waits-more handyPhone more (omega arith) long .0) ∙ wait-first (waits handyPhone (more - 16511))
 
       pub wait-room : place + 4 ≤ length out
@@ -120,8 +120,8 @@ module _ (l : List ℕ) (at gap : ℕ) where
       pub wait-again : (m : List ℕ) (next : ℕ) → next ≡ place + 4 → m ≡ sets out place (0xFF ∷ 0x7F ∷ 0xFF ∷ 0x00 ∷ []) → length m ≡ length out
           → Waiting l at gap m next (more - 16511)
       wait-again m next n e k =
-          let stored : sets m next (gapBytes (more - 16511)) ≡ sets out place (gapBytes more) =
-          rw (e, n, ahead) (sets-append out place waitBytes (gapBytes (more - 16511))) in
+          let stored : sets m next (waitsBytes (more - 16511)) ≡ sets out place (waitsBytes more) =
+          rw (e, n, ahead) (sets-append out place waitBytes (waitsBytes (more - 16511))) in
           record {
             same = k ∙ w .same;
             size = omega (arith, ap length ahead, w .size);
@@ -130,32 +130,56 @@ module _ (l : List ℕ) (at gap : ℕ) where
           }
 
     module _ (short : more ≤ 16511) where
-      nothing : gapBytes more ≡ []
+      nothing : waitsBytes more ≡ []
       unfolding bytesOf
       nothing = ap (bytesOf handyPhone) (waits-none handyPhone more (omega arith) short .0)
 
-      pub wait-ends : place ≡ at + length (gapBytes gap)
+      pub wait-ends : place ≡ at + length (waitsBytes gap)
       wait-ends = omega (arith, ap length nothing, w .size)
 
-      pub wait-whole : out ≡ sets l at (gapBytes gap)
+      pub wait-whole : out ≡ sets l at (waitsBytes gap)
       wait-whole = ap (sets out place) (sym nothing) ∙ w .whole
 
 pub ruleset waiting = (wait-starts, wait-room, wait-again, wait-ends, wait-whole)
+
+-- a gap, written: the waits, and the duration that is left
+module _ (l : List ℕ) (at gap : ℕ) where
+  pub gap-waits-room : at + gapSize gap ≤ length l → at + length (waitsBytes gap) ≤ length l
+  unfolding gapSize
+  gap-waits-room room = omega arith
+
+  module _ (v middle : ℕ) (is : v ≡ left 16511 gap) (after : middle ≡ at + length (waitsBytes gap)) where
+    lasting : length (durationBytes v) ≡ length (durationBytes (left 16511 gap))
+    lasting = ap (λ (x : ℕ). length (durationBytes x)) is
+
+    pub gap-duration-room : (k : List ℕ) → at + gapSize gap ≤ length l → length k ≡ length l → middle + length (durationBytes v) ≤ length k
+    unfolding gapSize
+    gap-duration-room k room same = omega (arith, lasting)
+
+    pub gap-next : (n : ℕ) → n ≡ middle + length (durationBytes v) → n ≡ at + gapSize gap
+    unfolding gapSize
+    gap-next n e = omega (arith, lasting)
+
+    pub gap-wrote : (k m : List ℕ) → k ≡ sets l at (waitsBytes gap) → m ≡ sets k middle (durationBytes v) → m ≡ sets l at (gapBytes gap)
+    unfolding gapBytes
+    gap-wrote k m p q = q ∙ rw (p, after, is) (sets-append l at (waitsBytes gap) (durationBytes (left 16511 gap)))
+
+pub ruleset gaps = (gap-waits-room, gap-duration-room, gap-next, gap-wrote)
 
 -- a rest, written: the waits, and a last part
 module _ (l : List ℕ) (at gap : ℕ) where
   module _ (v : ℕ) (is : v ≡ left 16511 gap) where
     module _ (none : v ≡ 0) where
-      alone : bytesOf handyPhone (rest handyPhone gap) ≡ gapBytes gap
+      alone : bytesOf handyPhone (rest handyPhone gap) ≡ waitsBytes gap
       alone = ap (bytesOf handyPhone) (rest-none gap (sym is ∙ none))
 
-      pub rest-none-next : (place : ℕ) → place ≡ at + length (gapBytes gap) → place ≡ at + length (bytesOf handyPhone (rest handyPhone gap))
+      pub rest-none-next : (place : ℕ) → place ≡ at + length (waitsBytes gap) → place ≡ at + length (bytesOf handyPhone (rest handyPhone gap))
       rest-none-next place e = rw alone e
 
-      pub rest-none-wrote : (k : List ℕ) → k ≡ sets l at (gapBytes gap) → k ≡ sets l at (bytesOf handyPhone (rest handyPhone gap))
+      pub rest-none-wrote : (k : List ℕ) → k ≡ sets l at (waitsBytes gap) → k ≡ sets l at (bytesOf handyPhone (rest handyPhone gap))
       rest-none-wrote k e = rw alone e
 
-    module _ (some : v ≡ 0 → ⊥) (place : ℕ) (after : place ≡ at + length (gapBytes gap)) where
+    module _ (some : v ≡ 0 → ⊥) (place : ℕ) (after : place ≡ at + length (waitsBytes gap)) where
       pub rest-part-room : (k : List ℕ) → at + length (bytesOf handyPhone (rest handyPhone gap)) ≤ length l → length k ≡ length l
           → place + length (durationBytes v) ≤ length k
       rest-part-room k room same = omega (arith, rest-length gap v is some)
@@ -168,14 +192,14 @@ module _ (l : List ℕ) (at gap : ℕ) where
         pub rest-next : (n : ℕ) → n ≡ middle + 2 → n ≡ at + length (bytesOf handyPhone (rest handyPhone gap))
         rest-next n e = omega (arith, rest-length gap v is some)
 
-        pub rest-wrote : (k m r : List ℕ) → k ≡ sets l at (gapBytes gap) → m ≡ sets k place (durationBytes v) → r ≡ sets m middle (0xFF ∷ 0x00 ∷ [])
+        pub rest-wrote : (k m r : List ℕ) → k ≡ sets l at (waitsBytes gap) → m ≡ sets k place (durationBytes v) → r ≡ sets m middle (0xFF ∷ 0x00 ∷ [])
             → r ≡ sets l at (bytesOf handyPhone (rest handyPhone gap))
         rest-wrote k m r p q h =
             let both : r ≡ sets k place (durationBytes v ++ (0xFF ∷ 0x00 ∷ [])) =
             h ∙ rw (q, between) (sets-append k place (durationBytes v) (0xFF ∷ 0x00 ∷ [])) in
-            both ∙ rw (p, after, rest-bytes gap v is some) (sets-append l at (gapBytes gap) (durationBytes v ++ (0xFF ∷ 0x00 ∷ [])))
+            both ∙ rw (p, after, rest-bytes gap v is some) (sets-append l at (waitsBytes gap) (durationBytes v ++ (0xFF ∷ 0x00 ∷ [])))
 
-pub left-room : (l : List ℕ) (at gap : ℕ) → at + length (bytesOf handyPhone (rest handyPhone gap)) ≤ length l → at + length (gapBytes gap) ≤ length l
+pub left-room : (l : List ℕ) (at gap : ℕ) → at + length (bytesOf handyPhone (rest handyPhone gap)) ≤ length l → at + length (waitsBytes gap) ≤ length l
 left-room l at gap room =
     by-test (left 16511 gap ≡? 0)
     (λ t. omega (arith, ap (λ (items : List (Item Content)). length (bytesOf handyPhone items)) (rest-none gap (eqb-true (left 16511 gap) 0 t))))

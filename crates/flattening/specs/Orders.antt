@@ -2,7 +2,7 @@
 use Prim.Native.Nat.{ℕ, _+_, _<_, _≤_}
 use mathlib.Core.Path.{_≡_}
 use mathlib.Core.Bool.{false}
-use mathlib.Core.List.{List, [], _∷_}
+use mathlib.Core.List.{List}
 use lib.ListN.{length, getD}
 use Rattle.model.specs.Words.{if_then_else_, _or_, _<?_, Checked, Checked.fine, Checked.refused}
 use Rattle.model.specs.Bytes.{_!_}
@@ -10,11 +10,10 @@ use Rattle.model.specs.Plain.{bytesOf, rest, plainAfter}
 use Rattle.model.specs.Content.{handyPhone}
 use Rattle.model.specs.declared.Span.{Span}
 use Rattle.model.specs.declared.Shape.{Shape}
-use Rattle.sections.specs.Spans.{Items, spanRows, Rising}
+use Rattle.sections.specs.Spans.{Items}
 use Rattle.playing.specs.Performing.{spanAt, lastsTogether, rowsTogether}
 use Rattle.flattening.specs.declared.Size.{Size}
-use Rattle.flattening.specs.declared.OrderSize.{OrderSize}
-use Rattle.flattening.specs.declared.OrderSize.the-variants.{Bytes, Over}
+use Rattle.flattening.specs.declared.Measure.{Measure}
 use Rattle.flattening.specs.Parts.{told, gapSize, spanShape}
 
 -- the bytes that are left of a plain form, after what is past, where so much has been played before
@@ -40,33 +39,23 @@ addShape size shape =
 unfoldable pub wholeSize : Size → ℕ
 wholeSize size = size .bytes + length (bytesOf handyPhone (rest handyPhone (size .gap))) + 4
 
-unfoldable pub sizeAfter : List Shape → Size → List ℕ → ℕ
-sizeAfter shapes size [] = wholeSize size
-sizeAfter shapes size (letter ∷ letters) = sizeAfter shapes (addShape size (shapeAt shapes letter)) letters
-
-abbrev pub nothing : Size
-nothing = record { bytes = 0; gap = 0 }
-
--- a plain form has 65,536 bytes at most
-unfoldable pub sizeAnswer : ℕ → OrderSize
-sizeAnswer many = if 65536 <? many then Over else Bytes many
-
 -- a shape whose times and bytes can be counted on
 pub record Slight (shape : Shape) : Type 0 where
   pub lead : shape .lead ≤ 1082064896
   pub tail : shape .tail ≤ 1082064896
   pub bytes : shape .bytes ≤ 70915304128512
 
-abbrev pub AllSlight : List Shape → List ℕ → Type 0
-AllSlight shapes letters = (i : ℕ) → i < length letters → Slight (shapeAt shapes (letters ! i))
-
 -- the shapes of a table are those of the spans of a list's letters
 abbrev pub AllShaped : List ℕ → Items → List Span → List Shape → List ℕ → Type 0
 AllShaped body items spans shapes letters =
     (i : ℕ) → i < length letters → shapeAt shapes (letters ! i) ≡ spanShape body items (spanAt spans (letters ! i))
 
-abbrev pub AllLight : List Shape → List ℕ → Type 0
-AllLight shapes letters = (i : ℕ) → i < length letters → shapeAt shapes (letters ! i) .bytes ≤ 70915304128512
+-- WHAT IS KNOWN of an order before a byte of it is written: the size of its plain form and the shapes of its spans, or that it is over 65,536
+-- bytes.
+pub record Measured (body : List ℕ) (items : Items) (spans : List Span) (letters : List ℕ) (measure : Measure) : Type 0 where
+  pub over : 65536 < measure .bytes → 65536 < length (orderBytes body items spans 0 0 letters)
+  pub size : measure .bytes ≤ 65536 → measure .bytes ≡ length (orderBytes body items spans 0 0 letters)
+  pub shaped : measure .bytes ≤ 65536 → AllShaped body items spans (measure .shapes) letters
 
 -- 18, at the track's header, where a plain form is over 65,536 bytes or over the room
 unfoldable pub fitted : ℕ → ℕ → List ℕ → Checked (List ℕ)

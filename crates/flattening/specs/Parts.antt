@@ -1,9 +1,11 @@
 -- A plain form in parts, one for each section: its messages after those before, and what is known of a part before it is written.
-use Prim.Native.Nat.{ℕ, _+_, _-_}
+use Prim.Native.Nat.{ℕ, _+_, _-_, _≤_}
 use mathlib.Core.Bool.{true, false}
 use mathlib.Core.List.{List, [], _∷_, _++_, map}
+use mathlib.Core.Path.{_≡_}
 use lib.ListN.{length}
 use Rattle.model.specs.Words.{if_then_else_}
+use Rattle.model.specs.Bytes.{part}
 use Rattle.model.specs.Duration.{longestDuration, durationBytes}
 use Rattle.model.specs.Item.{Item, Item.timed}
 use Rattle.model.specs.Play.{At}
@@ -14,7 +16,7 @@ use Rattle.model.specs.declared.Event.{Event}
 use Rattle.model.specs.declared.Shape.{Shape}
 use Rattle.model.specs.declared.Outline.{Outline}
 use Rattle.model.specs.declared.Span.{Span}
-use Rattle.sections.specs.Spans.{Items, spanRows}
+use Rattle.sections.specs.Spans.{Items, spanRows, Rising}
 
 -- each message in its own form after the gap to the one before
 unfoldable pub plainPart : ℕ → List (At Content) → List (Item Content)
@@ -43,7 +45,10 @@ partLast body past rows = lastStep past (told body rows)
 unfoldable pub messageBytes : List ℕ → ℕ → Event → List ℕ
 messageBytes body gap event = bytesOf handyPhone (waits handyPhone gap) ++ timedBytes body (left longestDuration gap) event
 
--- how many bytes a gap takes, with the duration that is left of it
+-- a gap in bytes, with the duration that is left of it, and how many they are
+unfoldable pub gapBytes : ℕ → List ℕ
+gapBytes gap = bytesOf handyPhone (waits handyPhone gap) ++ durationBytes (left longestDuration gap)
+
 unfoldable pub gapSize : ℕ → ℕ
 gapSize gap = length (bytesOf handyPhone (waits handyPhone gap)) + length (durationBytes (left longestDuration gap))
 
@@ -60,6 +65,27 @@ shapeOf lasts (first ∷ others) =
 -- the shape of a span of a body
 unfoldable pub spanShape : List ℕ → Items → Span → Shape
 spanShape body items span = shapeOf (span .lasts) (told body (spanRows items span 0))
+
+-- the bytes of messages after the gap to the first, which are the same wherever they are played
+unfoldable pub bytesAfterGap : List (At Content) → List ℕ
+bytesAfterGap [] = []
+bytesAfterGap (first ∷ others) = contentBytes (first .event) ++ bytesOf handyPhone (plainPart (first .step) others)
+
+unfoldable pub spanBytes : List ℕ → Items → Span → List ℕ
+spanBytes body items span = bytesAfterGap (told body (spanRows items span 0))
+
+-- Bytes stand in a memory from a place on, before another.
+pub record Written (bytes : List ℕ) (place : ℕ) (out : List ℕ) (at : ℕ) : Type 0 where
+  pub inside : place + length bytes ≤ at
+  pub stand : part out place (length bytes) ≡ bytes
+
+-- place 0 says that it is not known where they stand
+abbrev pub WrittenWhereKnown : List ℕ → ℕ → List ℕ → ℕ → Type 0
+WrittenWhereKnown bytes place out at = (place ≡ 0 → ⊥) → Written bytes place out at
+
+-- the steps of a span never fall, and none is past where it ends
+abbrev pub SpanRises : Items → Span → Type 0
+SpanRises items span = (before : ℕ) → Rising before (before + span .lasts) (spanRows items span before)
 
 -- nothing is counted yet
 abbrev pub silence : Outline

@@ -7,7 +7,7 @@ ghost use lib.ListN.{length};
 ghost use lib.Seq.{sets};
 ghost use Rattle.model.specs.Plain.{bytesOf, times, left, waits, rest};
 ghost use Rattle.model.specs.Content.{handyPhone};
-ghost use Rattle.flattening.specs.Parts.{gapSize};
+ghost use Rattle.flattening.specs.Parts.{gapBytes, gapSize};
 use writing::duration_size;
 use writing::write_duration;
 
@@ -36,7 +36,7 @@ fn waits_size(gap: u64) -> usize
     times_of(gap) as usize * 4
 }
 
-// A gap, with the duration that is left of it.
+// How many bytes a gap takes, with the duration that is left of it.
 pub fn gap_size(gap: u64) -> usize
     requires { ⌜ gap ≤ 4611686018427387904 ⌝ }
     ensures { λ r. ⌜ r ≡ gapSize gap ⌝ }
@@ -83,6 +83,16 @@ pub fn write_waits(out: &mut [u8], at: usize, gap: u64) -> usize
         more -= 16511;
     }
     place
+}
+
+// A gap, with the duration that is left of it.
+pub fn write_gap(out: &mut [u8], at: usize, gap: u64) -> usize
+    requires { ⌜ at + gapSize gap ≤ length (now out) ⌝ }
+    ensures { λ r. ⌜ r ≡ at + gapSize gap ⌝ }
+    ensures { λ _. ⌜ now (out .exit) ≡ sets (now (out .entry)) at (gapBytes gap) ⌝ }
+{
+    let middle = write_waits(out, at, gap);
+    write_duration(out, middle, left_of(gap))
 }
 
 fn write_nop(out: &mut [u8], at: usize) -> usize

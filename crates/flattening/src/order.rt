@@ -7,23 +7,23 @@ ghost use lib.Seq.{sets};
 ghost use Rattle.model.specs.Item.{bodyOf, isFine, itemsOf};
 ghost use Rattle.model.specs.Answer.{flattenAnswer, flattenRoom};
 ghost use Rattle.playing.specs.Performing.{AllPlayable, AllRise, AllShort, lastsTogether};
-ghost use Rattle.flattening.specs.Orders.{orderBytes, fitted};
-use super::OrderSize;
+ghost use Rattle.flattening.specs.Orders.{orderBytes, AllShaped, fitted};
+use super::again::write_section;
 use super::gaps::write_rest;
-use super::outlines::shape_letters;
-use super::section::write_messages;
-use super::sizes::size_order;
+use super::sizes::measure_order;
 use model::FlattenAnswer;
+use model::Shape;
 use model::Span;
 use model::Voice;
 use writing::write_end_mark;
 
-// The spans of letters one after the other, each message after the gap to the one before; then the rest and the end mark. Returns how
-// many bytes that is.
+// The spans of letters one after the other, each message after the gap to the one before; then the rest and the end mark. A span that comes
+// again is copied from where it was written last. Returns how many bytes that is.
 pub fn write_order(
     voice: Voice,
     body: &[u8],
     spans: [Span; 256],
+    shapes: [Shape; 256],
     letters: &[u8],
     out: &mut [u8],
 ) -> usize
@@ -32,18 +32,24 @@ pub fn write_order(
     requires { ⌜ length (now letters) ≤ 65536 ⌝ }
     requires { ⌜ AllPlayable (itemsOf voice (now body)) (length (now body)) spans (now letters) ⌝ }
     requires { ⌜ AllRise (itemsOf voice (now body)) spans (now letters) ⌝ }
+    requires { ⌜ AllShaped (now body) (itemsOf voice (now body)) spans shapes (now letters) ⌝ }
     requires { ⌜ lastsTogether spans (now letters) ≤ 4611686018427387904 ⌝ }
     requires { ⌜ length (orderBytes (now body) (itemsOf voice (now body)) spans 0 0 (now letters)) ≤ length (now out) ⌝ }
     ensures { λ r. ⌜ r ≡ length (orderBytes (now (body .entry)) (itemsOf voice (now (body .entry))) spans 0 0 (now (letters .entry))) ⌝ }
     ensures { λ _. ⌜ now (out .exit) ≡ sets (now (out .entry)) 0 (orderBytes (now (body .entry)) (itemsOf voice (now (body .entry))) spans 0 0 (now (letters .entry))) ⌝ }
 {
+    let mut places = [0usize; 256];
     let mut at: usize = 0;
     let mut before: u64 = 0;
     let mut past: u64 = 0;
     let mut i: usize = 0;
     while i < letters.len() {
-        let span = spans[letters[i] as usize];
-        let told = write_messages(voice, body, span, before, past, out, at);
+        let slot = letters[i] as usize;
+        let span = spans[slot];
+        let shape = shapes[slot];
+        let place = places[slot];
+        let told = write_section(voice, body, span, shape, place, before, past, out, at);
+        places[slot] = told.at - shape.bytes;
         at = told.at;
         past = told.past;
         before += span.lasts;
@@ -71,22 +77,21 @@ pub fn flatten_order(
     ensures { λ r. ⌜ r ≡ flattenAnswer (fitted header (length (now (out .entry))) (orderBytes (now (body .entry)) (itemsOf voice (now (body .entry))) spans 0 0 (now (letters .entry)))) ⌝ }
     ensures { λ _. ⌜ now (out .exit) ≡ flattenRoom (now (out .entry)) (fitted header (length (now (out .entry))) (orderBytes (now (body .entry)) (itemsOf voice (now (body .entry))) spans 0 0 (now (letters .entry)))) ⌝ }
 {
-    let shapes = shape_letters(voice, body, spans, letters);
-    match size_order(shapes, letters) {
-        OrderSize::Over => FlattenAnswer::Refused {
+    let measure = measure_order(voice, body, spans, letters);
+    if 65536 < measure.bytes {
+        return FlattenAnswer::Refused {
             number: 18,
             place: header,
-        },
-        OrderSize::Bytes { length } => {
-            if out.len() < length {
-                return FlattenAnswer::Refused {
-                    number: 18,
-                    place: header,
-                };
-            }
-            FlattenAnswer::Bytes {
-                length: write_order(voice, body, spans, letters, out),
-            }
-        }
+        };
+    }
+    if out.len() < measure.bytes {
+        return FlattenAnswer::Refused {
+            number: 18,
+            place: header,
+        };
+    }
+    let shapes = measure.shapes;
+    FlattenAnswer::Bytes {
+        length: write_order(voice, body, spans, shapes, letters, out),
     }
 }

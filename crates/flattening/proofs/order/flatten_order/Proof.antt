@@ -4,26 +4,18 @@ use borrow.Author.Needs.{needs}
 use Rattle.flattening.proofs.order.flatten_order.Statement.{statement}
 use Rattle.flattening.proofs.order.flatten_order.Tie as tie
 
-shape-letters-requires : tie.Need-shape-letters-requires
-shape-letters-requires c κs = search needs
-
-size-order-requires : tie.Need-size-order-requires
-size-order-requires c κs = (search needs, search flattened-order)
-
-enum-told : tie.Need-enum-told
-enum-told c = search needs
-
-enum-known-length : tie.Need-enum-known-length
-enum-known-length c = search needs
+measure-order-requires : tie.Need-measure-order-requires
+measure-order-requires c κs = search needs
 
 returns : tie.Need-returns
 returns c = (search flattened-order, search flattened-order)
 
-write-order-requires : tie.Need-write-order-requires
-write-order-requires c κs = (search needs, (search needs, (search needs, (search needs, (search needs, (search flattened-order, search flattened-order))))))
-
 returns-2 : tie.Need-returns-2
 returns-2 c = (search flattened-order, search flattened-order)
+
+write-order-requires : tie.Need-write-order-requires
+write-order-requires c κs =
+    (search needs, (search needs, (search needs, (search needs, (search needs, (search flattened-order, (search flattened-order, search flattened-order)))))))
 
 same-length : tie.Need-same-length
 same-length c = search needs
@@ -34,13 +26,4 @@ returns-3 c = (search flattened-order, search flattened-order)
 pub flatten-order-spec : {M : Type 1} → statement M
 flatten-order-spec =
     tie.close
-    (tie.spec
-    shape-letters-requires
-    size-order-requires
-    enum-told
-    enum-known-length
-    returns
-    write-order-requires
-    returns-2
-    same-length
-    returns-3)
+    (tie.spec measure-order-requires returns returns-2 write-order-requires same-length returns-3)

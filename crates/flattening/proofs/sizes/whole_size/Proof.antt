@@ -1,5 +1,5 @@
 -- `flattening::sizes::whole_size` meets its contract.
-use Rattle.flattening.proofs.Sizing.{whole-sizes}
+use Rattle.flattening.proofs.Sizing.{whole-is}
 use borrow.Author.Needs.{needs}
 use Rattle.flattening.proofs.sizes.whole_size.Statement.{statement}
 use Rattle.flattening.proofs.sizes.whole_size.Tie as tie
@@ -7,17 +7,14 @@ use Rattle.flattening.proofs.sizes.whole_size.Tie as tie
 rest-size-requires : tie.Need-rest-size-requires
 rest-size-requires c κs = search needs
 
-add-many : tie.Need-add-many
-add-many c = search needs
+add-result : tie.Need-add-result
+add-result c = search needs
 
-add-many-2 : tie.Need-add-many-2
-add-many-2 c = search needs
+add-result-2 : tie.Need-add-result-2
+add-result-2 c = search needs
 
 returns : tie.Need-returns
-returns c = search (needs, whole-sizes)
-
-returns-2 : tie.Need-returns-2
-returns-2 c = search (needs, whole-sizes)
+returns c = search (needs, whole-is)
 
 pub whole-size-spec : {M : Type 1} → statement M
-whole-size-spec = tie.close (tie.spec rest-size-requires add-many add-many-2 returns returns-2)
+whole-size-spec = tie.close (tie.spec rest-size-requires add-result add-result-2 returns)

@@ -1,0 +1,25 @@
+-- `flattening::gaps::write_gap` meets its contract.
+use Rattle.flattening.proofs.Waiting.{gaps}
+use borrow.Author.Needs.{needs}
+use Rattle.flattening.proofs.gaps.write_gap.Statement.{statement}
+use Rattle.flattening.proofs.gaps.write_gap.Tie as tie
+
+write-waits-requires : tie.Need-write-waits-requires
+write-waits-requires c κs = search (needs, gaps)
+
+left-of-requires : tie.Need-left-of-requires
+left-of-requires c κs = search needs
+
+write-duration-requires : tie.Need-write-duration-requires
+write-duration-requires c κs = (search needs, search (needs, gaps))
+
+same-length : tie.Need-same-length
+same-length c = search needs
+
+returns : tie.Need-returns
+returns c = (search gaps, search gaps)
+
+pub write-gap-spec : {M : Type 1} → statement M
+write-gap-spec =
+    tie.close
+    (tie.spec write-waits-requires left-of-requires write-duration-requires same-length returns)
