@@ -7,6 +7,7 @@ pub mod Walking
 pub mod Nearing
 pub mod Spanning
 pub mod Small
+pub mod Onward
 pub mod Steps
 pub mod Tunes
 pub mod Throughout
