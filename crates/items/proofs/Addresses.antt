@@ -21,7 +21,7 @@ use Rattle.model.specs.declared.Address.the-variants.{At, Nowhere}
 use Rattle.model.proofs.Tests.{by-test}
 use Rattle.model.proofs.Walks.{GoesOn, Stand, fine-found}
 use Rattle.items.proofs.Standing.{body-stands}
-use Rattle.items.proofs.Ahead.{item-goes}
+use Rattle.items.proofs.Ahead.{ItemAhead, item-ahead, item-goes}
 
 abbrev Items : Type 0
 Items = List (Placed (Item Event))
@@ -29,12 +29,18 @@ Items = List (Placed (Item Event))
 abbrev Standing : Voice → List ℕ → ℕ → Items → Type 0
 Standing voice s at items = Stand (length s) (itemStep voice s) at items
 
--- an item that stands at a place has that place, and ends past it and within the body
+-- an item that stands at a place has that place, and ends past it, by three bytes or more, and within the body
 met-at : (at end : ℕ) (j : ReadItem) (item : Placed (Item Event)) (next : ℕ) → itemMet at j ≡ met item next → item .place ≡ at
 unfolding itemMet
 met-at at end (Timed duration event n) item next e = let same : _≡_ {A = Placed (Item Event)} (record { place = at; what = timed duration event }) item = cc in ap (λ (i : Placed (Item Event)). i .place) (sym same)
 met-at at end (EndMark n) item next e = let same : _≡_ {A = Placed (Item Event)} (record { place = at; what = endMark }) item = cc in ap (λ (i : Placed (Item Event)). i .place) (sym same)
 met-at at end (Refused number place) item next e = let z : _≡_ {A = ℕ} 0 1 = cc in absurd (omega arith)
+
+met-far : (at end : ℕ) (j : ReadItem) (item : Placed (Item Event)) (next : ℕ) → ItemAhead at end j → itemMet at j ≡ met item next → at + 3 ≤ next
+unfolding itemMet
+met-far at end (Timed duration event n) item next a e = let same : n ≡ next = cc in omega arith
+met-far at end (EndMark n) item next a e = let same : n ≡ next = cc in omega arith
+met-far at end (Refused number place) item next a e = let z : _≡_ {A = ℕ} 0 1 = cc in absurd (omega arith)
 
 module _ (voice : Voice) (s : List ℕ) (at : ℕ) (item : Placed (Item Event)) (next : ℕ) (e : itemStep voice s at ≡ met item next) where
   pub placed-at : item .place ≡ at
@@ -43,6 +49,10 @@ module _ (voice : Voice) (s : List ℕ) (at : ℕ) (item : Placed (Item Event)) 
 
   pub stands-ahead : (at < next) × (next ≤ length s)
   stands-ahead = subst (GoesOn (length s) at) e (item-goes voice s at)
+
+  pub stands-far : at + 3 ≤ next
+  unfolding itemStep
+  stands-far = met-far at (length s) (itemAt voice s at) item next (item-ahead voice s at) e
 
 -- the two halves of what is asked of an address, of the items from some place on
 abbrev pub isThere : Items → ℕ → ℕ → Bool

@@ -1,4 +1,5 @@
--- What is read at a place ends past the place and within the body; and a refused item is refused with 11 at its own place.
+-- What is read at a place ends within the body and past the place, an event by two bytes or more and an item by three or more; and a
+-- refused item is refused with 11 at its own place.
 use Prim.Native.Nat.{ℕ, _+_, _<_, _≤_}
 use mathlib.Core.List.{List}
 use mathlib.Core.Bool.{Bool, true, false}
@@ -25,12 +26,12 @@ DurationAhead at end (duration.Is value next) = (at < next) × (next ≤ end)
 DurationAhead at end duration.Refused = Unit
 
 abbrev pub EventAhead : ℕ → ℕ → ReadEvent → Type 0
-EventAhead at end (event.Is what next) = (at < next) × (next ≤ end)
+EventAhead at end (event.Is what next) = (at + 2 ≤ next) × (next ≤ end)
 EventAhead at end event.Refused = Unit
 
 abbrev pub ItemAhead : ℕ → ℕ → ReadItem → Type 0
-ItemAhead at end (Timed length event next) = (at < next) × (next ≤ end)
-ItemAhead at end (EndMark next) = (at < next) × (next ≤ end)
+ItemAhead at end (Timed length event next) = (at + 3 ≤ next) × (next ≤ end)
+ItemAhead at end (EndMark next) = (at + 3 ≤ next) × (next ≤ end)
 ItemAhead at end (Refused number place) = (number ≡ 11) × (place ≡ at)
 
 pub duration-ahead : (s : List ℕ) (at : ℕ) → DurationAhead at (length s) (durationAt s at)
@@ -133,8 +134,8 @@ setup-message-ahead s at =
 
 item-met-goes : (at end : ℕ) (item : ReadItem) → ItemAhead at end item → GoesOn end at (itemMet at item)
 unfolding itemMet
-item-met-goes at end (Timed duration event next) a = a
-item-met-goes at end (EndMark next) a = a
+item-met-goes at end (Timed duration event next) a = omega arith
+item-met-goes at end (EndMark next) a = omega arith
 item-met-goes at end (Refused number place) a = tt
 
 pub item-goes : (voice : Voice) (s : List ℕ) (at : ℕ) → GoesOn (length s) at (itemStep voice s at)
@@ -143,7 +144,7 @@ item-goes voice s at = item-met-goes at (length s) (itemAt voice s at) (item-ahe
 
 message-met-goes : (at end : ℕ) (message : ReadEvent) → EventAhead at end message → GoesOn end at (messageMet at message)
 unfolding messageMet
-message-met-goes at end (event.Is what next) a = a
+message-met-goes at end (event.Is what next) a = omega arith
 message-met-goes at end event.Refused a = tt
 
 pub message-goes : (s : List ℕ) (at : ℕ) → GoesOn (length s) at (setupStep s at)

@@ -99,12 +99,12 @@ module _ (voice : Voice) (s : List ℕ) (at count lasts : ℕ) (r : Reading voic
     body-nears duration next event e = let a = ahead (Timed duration event next) e in omega arith
 
     -- an item that is read
-    taken : (what : Item Event) (next : ℕ) → itemStep voice s at ≡ met (record { place = at; what = what }) next → (at < next) × (next ≤ length s)
+    taken : (what : Item Event) (next : ℕ) → itemStep voice s at ≡ met (record { place = at; what = what }) next → (at + 3 ≤ next) × (next ≤ length s)
         → (left : Checked Items) × Left 11 (length s) (itemStep voice s) notAfterEndMark next (record { place = at; what = what } ∷ r .before) left
         × (onto (count + 1) (lasts + durationOf what) left ≡ bodyAnswer (bodyOf voice s))
     taken what next st a =
         let item : Placed (Item Event) = record { place = at; what = what } in
-        let n = left-next _ _ _ _ at (r .before) (r .left) (r .walk) item next here st a (unmarked-passes (r .before) item (r .unmarked)) in
+        let n = left-next _ _ _ _ at (r .before) (r .left) (r .walk) item next here st (omega arith) (unmarked-passes (r .before) item (r .unmarked)) in
         (n .0, n .1, sym (onto-first count lasts item (n .0)) ∙ ap (onto count lasts) (sym (n .2)) ∙ r .same)
 
     pub body-reads : (duration next : ℕ) (event : Event) → i ≡ Timed duration event next → duration < 4294967296

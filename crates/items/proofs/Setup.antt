@@ -54,7 +54,7 @@ module _ (s : List ℕ) (at : ℕ) (r : SettingUp s at) where
     unfolding messageMet checkAnswer
     setup-refused e = ap checkAnswer (sym (left-stuck _ _ _ _ at (r .before) (r .left) (r .walk) 10 at here (stands event.Refused e))) ∙ r .same
 
-    ahead : (next : ℕ) (message : Event) → i ≡ event.Is message next → (at < next) × (next ≤ length s)
+    ahead : (next : ℕ) (message : Event) → i ≡ event.Is message next → (at + 2 ≤ next) × (next ≤ length s)
     ahead next message e = subst (EventAhead at (length s)) (sym is ∙ e) (setup-message-ahead s at)
 
     pub setup-nears : (next : ℕ) (message : Event) → i ≡ event.Is message next → length s - next < length s - at
@@ -63,7 +63,8 @@ module _ (s : List ℕ) (at : ℕ) (r : SettingUp s at) where
     pub setup-reads : (next : ℕ) (message : Event) → i ≡ event.Is message next → SettingUp s next
     unfolding messageMet
     setup-reads next message e =
-        let n = left-next _ _ _ _ at (r .before) (r .left) (r .walk) message next here (stands (event.Is message next) e) (ahead next message e) refl in
+        let a = ahead next message e in
+        let n = left-next _ _ _ _ at (r .before) (r .left) (r .walk) message next here (stands (event.Is message next) e) (omega arith) refl in
         record {
           before = message ∷ r .before;
           left = n .0;

@@ -1,6 +1,6 @@
 -- What is played, from its rows: 15 where a table has too little room, and otherwise the answer and the two tables. For a stream, whose
 -- rows are those of one span.
-use Prim.Native.Nat.{ℕ, _+_, _<_, _≤_, min}
+use Prim.Native.Nat.{ℕ, _+_, _/_, _<_, _≤_, min}
 use mathlib.Core.Path.{_≡_, refl, sym, _∙_, ap, ap₂}
 use mathlib.Core.Bool.{false}
 use mathlib.Core.List.{List, [], _∷_, _++_, map, append-nil}
@@ -78,6 +78,18 @@ module _ (o : Checked (Tune Event)) (header room : ℕ) (tune : Tune Event) (is 
       ∙ ap (λ (r : List (At Event)). writtenOver l (wordsOf r)) are
       ∙ ap (wordsTable l) (sym (tune-fits h))
 
+-- what the shorter of two has room for, both have
+module _ (least steps words many : ℕ) (shorter : least ≡ min steps words) (enough : many ≤ least) where
+  pub steps-have-room : many ≤ steps
+  steps-have-room = omega arith
+
+  pub words-have-room : many ≤ words
+  words-have-room = omega arith
+
+-- so has room for a third of a body for the messages that are no more than that
+pub third-has-room : (size room many : ℕ) → many ≤ size / 3 → size / 3 ≤ room → many ≤ room
+third-has-room size room many few h = omega arith
+
 -- A STREAM
 
 module _ (voice : Voice) (header : ℕ) (body seek steps words : List ℕ) (ready : Ready voice false body seek) (span : Span)
@@ -130,22 +142,16 @@ module _ (voice : Voice) (header : ℕ) (body seek steps words : List ℕ) (read
     pub stream-short-words : least < span .messages → words ≡ wordsTable words (heard voice false header (min (length steps) (length words)) body seek)
     stream-short-words h = refused-words _ 15 header (short h) words
 
-    module _ (enough : span .messages ≤ least) where
-      pub stream-steps-room : 0 + span .messages ≤ length steps
-      stream-steps-room = omega arith
+  module _ (steps-room : span .messages ≤ length steps) (words-room : span .messages ≤ length words) where
+    pub stream-answer : play.Rows (span .messages) (span .lasts) ≡ playAnswer (heard voice false header (min (length steps) (length words)) body seek)
+    stream-answer = tune-answer _ header room tune stream-is _ rows-are (span .messages) rows-many (span .lasts) lasts-are (omega arith)
 
-      pub stream-words-room : 0 + span .messages ≤ length words
-      stream-words-room = omega arith
+    pub stream-steps : (m : List ℕ) → m ≡ sets steps 0 (stepsOf (spanRows (itemsOf voice body) span 0))
+        → m ≡ stepsTable steps (heard voice false header (min (length steps) (length words)) body seek)
+    stream-steps m e = tune-steps _ header room tune stream-is _ rows-are (span .messages) rows-many steps m (omega arith) (omega arith) e
 
-      pub stream-answer : play.Rows (span .messages) (span .lasts) ≡ playAnswer (heard voice false header (min (length steps) (length words)) body seek)
-      stream-answer = tune-answer _ header room tune stream-is _ rows-are (span .messages) rows-many (span .lasts) lasts-are (omega arith)
+    pub stream-words : (m : List ℕ) → m ≡ sets words 0 (wordsOf (spanRows (itemsOf voice body) span 0))
+        → m ≡ wordsTable words (heard voice false header (min (length steps) (length words)) body seek)
+    stream-words m e = tune-words _ header room tune stream-is _ rows-are (span .messages) rows-many words m (omega arith) (omega arith) e
 
-      pub stream-steps : (m : List ℕ) → m ≡ sets steps 0 (stepsOf (spanRows (itemsOf voice body) span 0))
-          → m ≡ stepsTable steps (heard voice false header (min (length steps) (length words)) body seek)
-      stream-steps m e = tune-steps _ header room tune stream-is _ rows-are (span .messages) rows-many steps m (omega arith) (omega arith) e
-
-      pub stream-words : (m : List ℕ) → m ≡ sets words 0 (wordsOf (spanRows (itemsOf voice body) span 0))
-          → m ≡ wordsTable words (heard voice false header (min (length steps) (length words)) body seek)
-      stream-words m e = tune-words _ header room tune stream-is _ rows-are (span .messages) rows-many words m (omega arith) (omega arith) e
-
-pub ruleset stream-played = (stream-playable, stream-short, stream-short-steps, stream-short-words, stream-steps-room, stream-words-room, stream-answer, stream-steps, stream-words)
+pub ruleset stream-played = (stream-playable, stream-short, stream-short-steps, stream-short-words, steps-have-room, words-have-room, stream-answer, stream-steps, stream-words)

@@ -1,7 +1,7 @@
 // A stream: one section, between its points.
 ghost use mathlib.Core.Path.{_≡_};
 ghost use mathlib.Core.Bool.{false};
-ghost use Prim.Native.Nat.{_≤_, min};
+ghost use Prim.Native.Nat.{_/_, _≤_, min};
 ghost use lib.ListN.{length};
 ghost use Rattle.model.specs.Words.{_otherwise_};
 ghost use Rattle.model.specs.Item.{itemsOf};
@@ -57,7 +57,8 @@ pub fn shorter(steps: &[u64], words: &[u32]) -> usize
     words.len()
 }
 
-pub fn play_stream(
+// The section is counted before it is written.
+fn play_counted(
     voice: Voice,
     header: usize,
     body: &[u8],
@@ -82,4 +83,50 @@ pub fn play_stream(
         count: span.messages,
         end: span.lasts,
     }
+}
+
+// In tables with room for a message in every three bytes of the body: nothing is counted first where there is no stop point.
+fn play_roomy(
+    voice: Voice,
+    header: usize,
+    body: &[u8],
+    seek: &[u8],
+    steps: &mut [u64],
+    words: &mut [u32],
+) -> PlayAnswer
+    requires { ⌜ Ready voice false (now body) (now seek) ⌝ }
+    requires { ⌜ length (now body) / 3 ≤ length (now steps) ⌝ }
+    requires { ⌜ length (now body) / 3 ≤ length (now words) ⌝ }
+    ensures { λ r. ⌜ r ≡ playAnswer (heard voice false header (min (length (now (steps .entry))) (length (now (words .entry)))) (now (body .entry)) (now (seek .entry))) ⌝ }
+    ensures { λ _. ⌜ now (steps .exit) ≡ stepsTable (now (steps .entry)) (heard voice false header (min (length (now (steps .entry))) (length (now (words .entry)))) (now (body .entry)) (now (seek .entry))) ⌝ }
+    ensures { λ _. ⌜ now (words .exit) ≡ wordsTable (now (words .entry)) (heard voice false header (min (length (now (steps .entry))) (length (now (words .entry)))) (now (body .entry)) (now (seek .entry))) ⌝ }
+{
+    let points = points_of(false, seek);
+    if points.stops {
+        return play_counted(voice, header, body, seek, steps, words);
+    }
+    let span = sections::write_from(voice, body, points.start as usize, steps, words);
+    PlayAnswer::Rows {
+        count: span.messages,
+        end: span.lasts,
+    }
+}
+
+pub fn play_stream(
+    voice: Voice,
+    header: usize,
+    body: &[u8],
+    seek: &[u8],
+    steps: &mut [u64],
+    words: &mut [u32],
+) -> PlayAnswer
+    requires { ⌜ Ready voice false (now body) (now seek) ⌝ }
+    ensures { λ r. ⌜ r ≡ playAnswer (heard voice false header (min (length (now (steps .entry))) (length (now (words .entry)))) (now (body .entry)) (now (seek .entry))) ⌝ }
+    ensures { λ _. ⌜ now (steps .exit) ≡ stepsTable (now (steps .entry)) (heard voice false header (min (length (now (steps .entry))) (length (now (words .entry)))) (now (body .entry)) (now (seek .entry))) ⌝ }
+    ensures { λ _. ⌜ now (words .exit) ≡ wordsTable (now (words .entry)) (heard voice false header (min (length (now (steps .entry))) (length (now (words .entry)))) (now (body .entry)) (now (seek .entry))) ⌝ }
+{
+    if shorter(steps, words) < body.len() / 3 {
+        return play_counted(voice, header, body, seek, steps, words);
+    }
+    play_roomy(voice, header, body, seek, steps, words)
 }

@@ -8,6 +8,7 @@ pub mod Walking
 pub mod Nearing
 pub mod Spanning
 pub mod Small
+pub mod Onward
 pub mod Steps
 pub mod WholeStream
 pub mod Tunes

@@ -1,18 +1,18 @@
--- The rows of a span, stored one after the other: the invariant of `write_span`'s loop, that what is still to be stored makes the whole,
+-- The rows of a span, stored one after the other: the invariant of `write_rows`'s loop, that what is still to be stored makes the whole,
 -- and what each turn and each way out makes of it.
 use Prim.Native.Nat.{ℕ, zero, suc, _+_, _-_, _*_, _<_, _≤_}
 use mathlib.Core.Bool.{Bool, true, false}
 use mathlib.Core.List.{List, [], _∷_, map}
 use mathlib.Core.Path.{_≡_, refl, sym, _∙_, ap, subst}
-use lib.ListN.{length, take, set, length-set}
+use lib.ListN.{length, take, set, length-set, length-take, length-map}
 use lib.Seq.{sets}
-use native.Mathlib.Nat.{add-zero}
+use native.Mathlib.Nat.{add-zero, zero-add, add-assoc}
 use native.Mathlib.Numerals.{add-one}
 use native.Mathlib.Omega.{arith}
 use borrow.Author.Tests.{ltb-false}
-use Rattle.model.specs.Words.{if_then_else_, _<?_, Placed, Step.met, Step.stuck}
+use Rattle.model.specs.Words.{if_then_else_, _<?_, sum, Placed, Step.met, Step.stuck}
 use Rattle.model.specs.Bytes.{_!_}
-use Rattle.model.specs.Item.{Item, Item.timed, Item.endMark, durationOf, itemAt, itemMet, itemStep, bodyOf, isFine, itemsOf}
+use Rattle.model.specs.Item.{Item, Item.timed, Item.endMark, durationOf, lasting, itemAt, itemMet, itemStep, bodyOf, isFine, itemsOf}
 use Rattle.model.specs.Play.{At, Section, onsetsAfter, withMessage, messagesOf}
 use Rattle.model.specs.Word.{isMessage, wordOf, InWord}
 use Rattle.model.specs.declared.Voice.{Voice}
@@ -23,7 +23,7 @@ use Rattle.model.specs.declared.Span.{Span}
 use Rattle.model.proofs.Tests.{by-test}
 use Rattle.items.proofs.Addresses.{stands-ahead, reads-to-items}
 use Rattle.items.proofs.Standing.{body-stands}
-use Rattle.sections.specs.Spans.{Items, messagesAfter, messagesWithin, since, spanOf, counted, spanRows, stepsOf, wordsOf, Playable}
+use Rattle.sections.specs.Spans.{Items, messagesAfter, since, itemsFrom, spanOf, counted, spanRows, stepsOf, wordsOf, Begun, Ended, Playable}
 use Rattle.sections.proofs.InWords.{ItemInWord, item-in-word}
 use Rattle.sections.proofs.Places.{Standing, first-stands, from-since, past-small}
 
@@ -74,6 +74,20 @@ pub later-not-before : (start time : ℕ) (items : Items) → start ≤ time →
 later-not-before start time [] h = tt
 later-not-before start time (item ∷ items) h = omega arith
 
+-- what is past and what the items not before a time last make up what all last
+since-lasts : (time past : ℕ) (items : Items) → since time past items .past + lasting (since time past items .items) ≡ past + lasting items
+unfolding since lasting sum if_then_else_
+since-lasts time past [] = refl
+since-lasts time past (item ∷ items) =
+    by-test (past + durationOf (item .what) <? time)
+    (λ t. simp t (since-lasts time (past + durationOf (item .what)) items ∙ add-assoc past (durationOf (item .what)) (lasting items)))
+    (λ t. simp t)
+
+-- a span has no more rows than it says
+pub rows-room : (items : Items) (span : Span) (before at room : ℕ) → at + span .messages ≤ room → at + length (spanRows items span before) ≤ room
+unfolding spanRows
+rows-room items span before at room h = simp (length-map, length-take) (omega arith)
+
 pub record Rowing (voice : Voice) (s : List ℕ) (span : Span) (before : ℕ) (l m : List ℕ) (at end : ℕ) (out outs : List ℕ) (row place time : ℕ) : Type 0 where
   pub bytes : (k : ℕ) → s ! k < 256
   pub small : length s ≤ 65536
@@ -81,67 +95,89 @@ pub record Rowing (voice : Voice) (s : List ℕ) (span : Span) (before : ℕ) (l
   pub stands : Standing voice s place rest
   pub short : time ≤ 16511 * place
   pub ahead : NotBefore (span .start) time rest
+  pub whole : time + lasting rest ≡ lasting (itemsOf voice s)
+  pub ends : end ≡ at + span .messages
   pub few : row ≤ end
   pub fits : end < 18446744073709551616
   pub same-steps : length out ≡ length l
   pub same-words : length outs ≡ length m
-  pub room-steps : end ≤ length out
-  pub room-words : end ≤ length outs
+  pub room-steps : at + length (spanRows (itemsOf voice s) span before) ≤ length out
+  pub room-words : at + length (spanRows (itemsOf voice s) span before) ≤ length outs
+  pub count : row + length (next-rows before (span .start) (end - row) time rest) ≡ at + length (spanRows (itemsOf voice s) span before)
   pub steps : sets out row (stepsOf (next-rows before (span .start) (end - row) time rest)) ≡ sets l at (stepsOf (spanRows (itemsOf voice s) span before))
   pub words : sets outs row (wordsOf (next-rows before (span .start) (end - row) time rest)) ≡ sets m at (wordsOf (spanRows (itemsOf voice s) span before))
 
-module _ (voice : Voice) (s : List ℕ) (before : ℕ) (l m : List ℕ) (at : ℕ) (bytes : (k : ℕ) → s ! k < 256) where
-  abbrev Starts : Span → Type 0
-  Starts span = at + span .messages ≤ length l → at + span .messages ≤ length m
-      → at + span .messages < 18446744073709551616 → Rowing voice s span before l m at (at + span .messages) l m at (span .first) (span .past)
+-- a span that some section gives begins where that section does
+pub playable-begins : (items : Items) (size : ℕ) (span : Span) → Playable items size span → Begun items size span
+unfolding spanOf
+playable-begins items size span playable = subst (Begun items size) (sym (playable .is)) (record { first = refl; past = refl })
 
-  section-starts : (section : Section) → length s ≤ 65536 → isFine (bodyOf voice s) ≡ true → Starts (spanOf (itemsOf voice s) (length s) section)
-  unfolding spanOf spanRows
-  section-starts section small fine room rooms fits =
-      let items = itemsOf voice s in
-      let st = body-stands voice s items (reads-to-items voice s fine) in
-      let all : at + length (messagesWithin section items) - at ≡ length (messagesWithin section items) = omega arith in
-      let there = from-since voice s (section .from) 0 0 items st in
+module _ (voice : Voice) (s : List ℕ) (span : Span) (before : ℕ) (l m : List ℕ) (at end : ℕ) (bytes : (k : ℕ) → s ! k < 256) (small : length s ≤ 65536)
+    (fine : isFine (bodyOf voice s) ≡ true) (begun : Begun (itemsOf voice s) (length s) span) (ends : end ≡ at + span .messages) where
+  abbrev all : Items
+  all = itemsOf voice s
+
+  abbrev left : Items
+  left = since (span .start) 0 all .items
+
+  stand : Standing voice s 0 all
+  stand = body-stands voice s all (reads-to-items voice s fine)
+
+  begins : next-rows before (span .start) (end - at) (span .past) left ≡ spanRows all span before
+  unfolding spanRows
+  begins =
+      let many : end - at ≡ span .messages = omega arith in
+      let from : itemsFrom (span .first) all ≡ left = ap (λ (n : ℕ). itemsFrom n all) (begun .first) ∙ from-since voice s (span .start) 0 0 all stand in
+      rw (many, from) refl
+
+  pub rows-start : end < 18446744073709551616 → at + length (spanRows (itemsOf voice s) span before) ≤ length l
+      → at + length (spanRows (itemsOf voice s) span before) ≤ length m → Rowing voice s span before l m at end l m at (span .first) (span .past)
+  rows-start fits room rooms =
       record {
         bytes = bytes;
         small = small;
-        rest = since (section .from) 0 items .items;
-        stands = first-stands voice s (section .from) 0 0 items st;
-        short = past-small voice s bytes small (section .from) 0 0 items st (omega arith);
-        ahead = since-not-before (section .from) 0 items;
+        rest = left;
+        stands = subst (λ (n : ℕ). Standing voice s n left) (sym (begun .first)) (first-stands voice s (span .start) 0 0 all stand);
+        short = rw (begun .first, begun .past) (past-small voice s bytes small (span .start) 0 0 all stand (omega arith));
+        ahead = subst (λ (n : ℕ). NotBefore (span .start) n left) (sym (begun .past)) (since-not-before (span .start) 0 all);
+        whole = ap (λ (n : ℕ). n + lasting left) (begun .past) ∙ since-lasts (span .start) 0 all ∙ zero-add (lasting all);
+        ends = ends;
         few = omega arith;
         fits = fits;
         same-steps = refl;
         same-words = refl;
         room-steps = room;
         room-words = rooms;
-        steps = rw (all, there) refl;
-        words = rw (all, there) refl;
+        count = ap (λ (rows : List (At Event)). at + length rows) begins;
+        steps = ap (λ (rows : List (At Event)). sets l at (stepsOf rows)) begins;
+        words = ap (λ (rows : List (At Event)). sets m at (wordsOf rows)) begins;
       }
-
-  pub rows-start : (span : Span) → length s ≤ 65536 → isFine (bodyOf voice s) ≡ true → Playable (itemsOf voice s) (length s) span → Starts span
-  rows-start span small fine playable = subst Starts (sym (playable .is)) (section-starts (playable .section) small fine)
 
 module _ (voice : Voice) (s : List ℕ) (span : Span) (before : ℕ) (l m : List ℕ) (at end : ℕ) (out outs : List ℕ) (row place time : ℕ)
     (r : Rowing voice s span before l m at end out outs row place time) where
   -- all is stored, or nothing is left to be
   nothing-left : (rows : List (At Event)) → next-rows before (span .start) (end - row) time (r .rest) ≡ rows → rows ≡ []
       → (out ≡ sets l at (stepsOf (spanRows (itemsOf voice s) span before))) × (outs ≡ sets m at (wordsOf (spanRows (itemsOf voice s) span before)))
+      × (row ≡ at + length (spanRows (itemsOf voice s) span before))
   unfolding stepsOf wordsOf
   nothing-left rows e none = (
     ap (λ (x : List (At Event)). sets out row (stepsOf x)) (sym (e ∙ none)) ∙ r .steps,
     ap (λ (x : List (At Event)). sets outs row (wordsOf x)) (sym (e ∙ none)) ∙ r .words,
+    let no-row : length (next-rows before (span .start) (end - row) time (r .rest)) ≡ 0 = ap length (e ∙ none) in omega (arith, r .count),
   )
 
   full : row ≡ end → next-rows before (span .start) (end - row) time (r .rest) ≡ []
   full e = let none : end - row ≡ 0 = omega arith in rw none refl
 
-  over : length s ≤ place → next-rows before (span .start) (end - row) time (r .rest) ≡ []
-  over past = go (r .rest) (r .stands)
+  rests-none : length s ≤ place → r .rest ≡ []
+  rests-none past = go (r .rest) (r .stands)
     where
-      go : (items : Items) → Standing voice s place items → next-rows before (span .start) (end - row) time items ≡ []
-      go [] st = none-left before (span .start) (end - row) time
+      go : (items : Items) → Standing voice s place items → items ≡ []
+      go [] st = refl
       go (item ∷ items) st = let a = stands-ahead voice s place item (st .0) (st .1) in absurd (omega arith)
+
+  over : length s ≤ place → next-rows before (span .start) (end - row) time (r .rest) ≡ []
+  over past = ap (next-rows before (span .start) (end - row) time) (rests-none past) ∙ none-left before (span .start) (end - row) time
 
   pub steps-full : row ≡ end → out ≡ sets l at (stepsOf (spanRows (itemsOf voice s) span before))
   steps-full e = nothing-left _ refl (full e) .0
@@ -149,17 +185,31 @@ module _ (voice : Voice) (s : List ℕ) (span : Span) (before : ℕ) (l m : List
   pub words-full : row ≡ end → outs ≡ sets m at (wordsOf (spanRows (itemsOf voice s) span before))
   words-full e = nothing-left _ refl (full e) .1
 
+  pub ended-full : row ≡ end → Ended (itemsOf voice s) span before at (record { row = row; time = time })
+  ended-full e =
+      let many = nothing-left _ refl (full e) .2 in
+      record { row = many; time = λ fewer. absurd (omega (arith, r .ends)) }
+
   pub steps-over : length s ≤ place → out ≡ sets l at (stepsOf (spanRows (itemsOf voice s) span before))
   steps-over h = nothing-left _ refl (over h) .0
 
   pub words-over : length s ≤ place → outs ≡ sets m at (wordsOf (spanRows (itemsOf voice s) span before))
   words-over h = nothing-left _ refl (over h) .1
 
+  pub ended-over : length s ≤ place → Ended (itemsOf voice s) span before at (record { row = row; time = time })
+  unfolding lasting sum
+  ended-over h =
+      record {
+        row = nothing-left _ refl (over h) .2;
+        time = λ fewer. sym (add-zero time) ∙ ap (λ (items : Items). time + lasting items) (sym (rests-none h)) ∙ r .whole;
+      }
+
   -- past an item that is no message
   silent : (next later : ℕ) (items : Items) → Standing voice s next items → later ≤ 16511 * next → span .start ≤ later
+      → later + lasting items ≡ time + lasting (r .rest)
       → next-rows before (span .start) (end - row) time (r .rest) ≡ next-rows before (span .start) (end - row) later items
       → Rowing voice s span before l m at end out outs row next later
-  silent next later items st short late same =
+  silent next later items st short late lasts same =
       record {
         bytes = r .bytes;
         small = r .small;
@@ -167,12 +217,15 @@ module _ (voice : Voice) (s : List ℕ) (span : Span) (before : ℕ) (l m : List
         stands = st;
         short = short;
         ahead = later-not-before (span .start) later items late;
+        whole = lasts ∙ r .whole;
+        ends = r .ends;
         few = r .few;
         fits = r .fits;
         same-steps = r .same-steps;
         same-words = r .same-words;
         room-steps = r .room-steps;
         room-words = r .room-words;
+        count = ap (λ (x : List (At Event)). row + length x) (sym same) ∙ r .count;
         steps = ap (λ (x : List (At Event)). sets out row (stepsOf x)) (sym same) ∙ r .steps;
         words = ap (λ (x : List (At Event)). sets outs row (wordsOf x)) (sym same) ∙ r .words;
       }
@@ -222,27 +275,38 @@ module _ (voice : Voice) (s : List ℕ) (span : Span) (before : ℕ) (l m : List
           let d = subst ItemInWord (sym is ∙ e) (item-in-word s (r .bytes) (r .small) voice place) .0 in
           omega (arith, r .short)
 
+      lasts-next : time + duration + lasting (read .0) ≡ time + lasting (r .rest)
+      unfolding durationOf lasting sum
+      lasts-next = add-assoc time duration (lasting (read .0)) ∙ ap (λ (items : Items). time + lasting items) (sym (read .1))
+
       pub row-silent : (b : Bool) → b ≡ isMessage event → b ≡ false → Rowing voice s span before l m at end out outs row next (time + duration)
       row-silent b q h =
-          silent next (time + duration) (read .0) (read .2) short-next row-not-before
+          silent next (time + duration) (read .0) (read .2) short-next row-not-before lasts-next
           (ap (next-rows before (span .start) (end - row) time) (read .1)
           ∙ nop-next before (span .start) (end - row) time place duration event (read .0) (sym q ∙ h))
 
-      module _ (more : row ≡ end → ⊥) where
+      module _ (b : Bool) (more : row ≡ end → ⊥) (q : b ≡ isMessage event) (h : b ≡ true) where
+        opens : next-rows before (span .start) (end - row) time (r .rest)
+            ≡ record { step = before + (time + duration - span .start); event = event } ∷ next-rows before (span .start) (end - suc row) (time + duration) (read .0)
+        opens =
+            let left : end - row ≡ suc (end - suc row) = omega (arith, r .few) in
+            ap (λ (n : ℕ). next-rows before (span .start) n time (r .rest)) left
+            ∙ ap (next-rows before (span .start) (suc (end - suc row)) time) (read .1)
+            ∙ message-next before (span .start) (end - suc row) time place duration event (read .0) (sym q ∙ h)
+
+        counts : suc row + length (next-rows before (span .start) (end - suc row) (time + duration) (read .0)) ≡ at + length (spanRows (itemsOf voice s) span before)
+        counts = let one = ap length opens in omega (arith, r .count)
+
         pub row-room-steps : row < length out
-        row-room-steps = omega (arith, r .few, r .room-steps)
+        row-room-steps = omega (arith, counts, r .room-steps)
 
         pub row-room-words : row < length outs
-        row-room-words = omega (arith, r .few, r .room-words)
+        row-room-words = omega (arith, counts, r .room-words)
 
-        pub row-sounds : (b : Bool) (m₁ m₂ : List ℕ) → b ≡ isMessage event → b ≡ true → m₁ ≡ set out row (before + (time + duration - span .start))
+        pub row-sounds : (m₁ m₂ : List ℕ) → m₁ ≡ set out row (before + (time + duration - span .start))
             → m₂ ≡ set outs row (wordOf event) → Rowing voice s span before l m at end m₁ m₂ (row + 1) next (time + duration)
         unfolding stepsOf wordsOf
-        row-sounds b m₁ m₂ q h p₁ p₂ =
-            let left : end - row ≡ suc (end - suc row) = omega (arith, r .few) in
-            let same = ap (λ (n : ℕ). next-rows before (span .start) n time (r .rest)) left
-            ∙ ap (next-rows before (span .start) (suc (end - suc row)) time) (read .1)
-            ∙ message-next before (span .start) (end - suc row) time place duration event (read .0) (sym q ∙ h) in
+        row-sounds m₁ m₂ p₁ p₂ =
             record {
               bytes = r .bytes;
               small = r .small;
@@ -250,14 +314,17 @@ module _ (voice : Voice) (s : List ℕ) (span : Span) (before : ℕ) (l m : List
               stands = read .2;
               short = short-next;
               ahead = later-not-before (span .start) (time + duration) (read .0) row-not-before;
+              whole = lasts-next ∙ r .whole;
+              ends = r .ends;
               few = omega (arith, r .few);
               fits = r .fits;
               same-steps = ap length p₁ ∙ length-set out row _ ∙ r .same-steps;
               same-words = ap length p₂ ∙ length-set outs row _ ∙ r .same-words;
               room-steps = rw (p₁, length-set out row (before + (time + duration - span .start))) (r .room-steps);
               room-words = rw (p₂, length-set outs row (wordOf event)) (r .room-words);
-              steps = rw (p₁, add-one row) (ap (λ (x : List (At Event)). sets out row (stepsOf x)) (sym same) ∙ r .steps);
-              words = rw (p₂, add-one row) (ap (λ (x : List (At Event)). sets outs row (wordsOf x)) (sym same) ∙ r .words);
+              count = rw (add-one row) counts;
+              steps = rw (p₁, add-one row) (ap (λ (x : List (At Event)). sets out row (stepsOf x)) (sym opens) ∙ r .steps);
+              words = rw (p₂, add-one row) (ap (λ (x : List (At Event)). sets outs row (wordsOf x)) (sym opens) ∙ r .words);
             }
 
     module _ (next : ℕ) (e : i ≡ EndMark next) where
@@ -270,11 +337,12 @@ module _ (voice : Voice) (s : List ℕ) (span : Span) (before : ℕ) (l m : List
       row-nears-mark = let a = stands-ahead voice s place _ next (stands (EndMark next) e) in omega arith
 
       pub row-marks : Rowing voice s span before l m at end out outs row next time
-      unfolding itemMet durationOf
+      unfolding itemMet durationOf lasting sum
       row-marks =
           let a = stands-ahead voice s place _ next (stands (EndMark next) e) in
           let late : span .start ≤ time + 0 = subst (NotBefore (span .start) time) (marked .1) (r .ahead) in
           silent next time (marked .0) (marked .2) (omega (arith, r .short)) (omega arith)
+          (ap (λ (n : ℕ). time + n) (sym (zero-add (lasting (marked .0)))) ∙ ap (λ (items : Items). time + lasting items) (sym (marked .1)))
           (ap (next-rows before (span .start) (end - row) time) (marked .1) ∙ mark-next before (span .start) (end - row) time place (marked .0))
 
     -- nothing that stands in a body that reads is refused
@@ -296,6 +364,11 @@ module _ (voice : Voice) (s : List ℕ) (span : Span) (before : ℕ) (l m : List
       pub words-never : outs ≡ sets m at (wordsOf (spanRows (itemsOf voice s) span before))
       words-never = absurd never
 
+      pub ended-never : Ended (itemsOf voice s) span before at (record { row = row; time = time })
+      ended-never = absurd never
+
 pub ruleset row-turns = (row-in-word, row-not-before, row-nears, row-silent, row-room-steps, row-room-words, row-sounds, row-nears-mark, row-marks)
 
-pub ruleset row-ends = (steps-full, words-full, steps-over, words-over, steps-never, words-never)
+pub ruleset row-ends = (steps-full, words-full, ended-full, steps-over, words-over, ended-over, steps-never, words-never, ended-never)
+
+pub ruleset row-begins = (playable-begins, rows-room)

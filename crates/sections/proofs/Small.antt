@@ -1,4 +1,4 @@
--- What a span comes to: it plays at most as many messages as the body has bytes, and lasts at most as long as all of its items.
+-- What a span comes to: it plays at most a message for every three bytes of the body, and lasts at most as long as all of its items.
 use Prim.Native.Nat.{ℕ, _+_, _-_, _*_, _<_, _≤_}
 use mathlib.Core.Bool.{Bool, true}
 use mathlib.Core.List.{List, [], _∷_}
@@ -17,7 +17,7 @@ use Rattle.model.specs.declared.Voice.{Voice}
 use Rattle.model.specs.declared.Event.{Event}
 use Rattle.model.specs.declared.Span.{Span}
 use Rattle.model.proofs.Tests.{by-test}
-use Rattle.items.proofs.Addresses.{stands-ahead, reads-to-items}
+use Rattle.items.proofs.Addresses.{stands-ahead, stands-far, reads-to-items}
 use Rattle.items.proofs.Standing.{body-stands}
 use Rattle.sections.specs.Spans.{Items, onsets, spanOf, spanBetween, spanFrom, Small}
 use Rattle.sections.proofs.Places.{Standing, item-short}
@@ -31,13 +31,13 @@ kept-lasting test (item ∷ items) =
     by-test (test item) (λ t. simp t (omega arith)) (λ t. simp t (omega arith))
 
 module _ (voice : Voice) (s : List ℕ) where
-  messages-few : (test : At (Item Event) → Bool) (past at : ℕ) (items : Items) → Standing voice s at items
-      → at + length (messagesOf isMessage (keep test (onsets past items))) ≤ length s
+  pub messages-few : (test : At (Item Event) → Bool) (past at : ℕ) (items : Items) → Standing voice s at items
+      → at + 3 * length (messagesOf isMessage (keep test (onsets past items))) ≤ length s
   unfolding keep onsetsAfter messagesOf if_then_else_
   messages-few test past at [] st = omega arith
   messages-few test past at (item ∷ items) st =
       let onset = past + durationOf (item .what) in
-      let a = stands-ahead voice s at item (st .0) (st .1) in
+      let a = stands-far voice s at item (st .0) (st .1) in
       let rest = messages-few test onset (st .0) items (st .2) in
       let one = heard-one (item .what) in
       let l = messagesOf isMessage (keep test (onsets onset items)) in

@@ -6,6 +6,7 @@ use mathlib.Core.Bool.{Bool, true}
 use mathlib.Core.Option.{Option, none, some}
 use mathlib.Core.Path.{_≡_, refl, _∙_, ap}
 use lib.ListN.{length, take, length-map}
+use lib.Seq.{take-length}
 use native.Mathlib.Omega.{arith}
 use borrow.Author.Tests.{le-leb, lt-leb, le-ltb, lt-ltb, ltb-true, ltb-false}
 use Rattle.model.specs.Words.{_and_, if_then_else_, _<?_, keep}
@@ -71,10 +72,6 @@ unfolding keep isBelow if_then_else_
 all-kept [] = refl
 all-kept (at ∷ l) = ap (λ (rest : List (At (Item Event))). at ∷ rest) (all-kept l)
 
-take-all : {A : Type 0} (l : List A) → take (length l) l ≡ l
-take-all [] = refl
-take-all (a ∷ l) = ap (λ (rest : List _). a ∷ rest) (take-all l)
-
 -- an item's message in front of a first piece and of the whole
 first-with : (onset : ℕ) (item : Item Event) (piece whole : List (At Event)) → take (length piece) whole ≡ piece
     → take (length (withMessage isMessage onset item piece)) (withMessage isMessage onset item whole) ≡ withMessage isMessage onset item piece
@@ -90,7 +87,7 @@ first-kept : (to : Option ℕ) (past : ℕ) (items : Items)
     → take (length (messagesOf isMessage (keep (below to) (onsets past items)))) (messagesAfter past items)
     ≡ messagesOf isMessage (keep (below to) (onsets past items))
 unfolding keep onsetsAfter messagesOf isBelow if_then_else_
-first-kept none past items = rw (all-kept (onsets past items)) (take-all (messagesAfter past items))
+first-kept none past items = rw (all-kept (onsets past items)) (take-length (messagesAfter past items))
 first-kept (some bound) past [] = refl
 first-kept (some bound) past (item ∷ items) =
     by-test (past + durationOf (item .what) <? bound)

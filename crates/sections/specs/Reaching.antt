@@ -36,6 +36,11 @@ reachedOf items size address =
 abbrev pub atHead : Reached
 atHead = record { at = 0; time = 0; messages = 0; first = 0; past = 0; passed = 0 }
 
+-- the span from what is reached on, with so many messages, and so long
+abbrev pub spanOn : Reached → ℕ → ℕ → Span
+spanOn reached messages lasts =
+    record { first = reached .first; past = reached .past; start = reached .time; messages = messages; lasts = lasts }
+
 -- the span from what is reached on, up to so many messages and a time
 unfoldable pub spanTo : Reached → ℕ → ℕ → Span
 spanTo reached messages time =

@@ -1,19 +1,20 @@
 -- A section as a stretch of a body: onsets never fall, so what is not before a section is all that stands from some item on, and what it
 -- plays is the first so many messages of that.
-use Prim.Native.Nat.{ℕ, _+_, _-_, _*_, _≤_}
+use Prim.Native.Nat.{ℕ, _+_, _-_, _*_, _<_, _≤_}
 use mathlib.Core.List.{List, [], _∷_, map}
 use mathlib.Core.Option.{none}
 use mathlib.Core.Path.{_≡_}
 use lib.ListN.{length, take}
 use Rattle.model.specs.Words.{if_then_else_, _<?_, _≤?_, keep, Placed}
 use Rattle.model.specs.Duration.{longestDuration}
-use Rattle.model.specs.Item.{Item, durationOf}
+use Rattle.model.specs.Item.{Item, durationOf, lasting}
 use Rattle.model.specs.Play.{At, onsetsAfter, messagesOf, Section, isWithin}
 use Rattle.model.specs.Points.{timeOf}
 use Rattle.model.specs.Order.{between, streamSection}
 use Rattle.model.specs.Word.{isMessage, wordOf}
 use Rattle.model.specs.declared.Event.{Event}
 use Rattle.model.specs.declared.Span.{Span}
+use Rattle.sections.specs.declared.Written.{Written}
 
 abbrev pub Items : Type 0
 Items = List (Placed (Item Event))
@@ -94,6 +95,17 @@ Rising low high (row ∷ rows) = (low ≤ row .step) × Rising (row .step) high 
 pub record Small (size : ℕ) (span : Span) : Type 0 where
   pub few : span .messages ≤ size
   pub short : span .lasts ≤ longestDuration * size
+
+-- A span that begins with the first item that is not before its start.
+pub record Begun (items : Items) (size : ℕ) (span : Span) : Type 0 where
+  pub first : span .first ≡ placeOf size (since (span .start) 0 items .items)
+  pub past : span .past ≡ since (span .start) 0 items .past
+
+-- Where the rows of a span end that stand from an index on: after as many as there are; and where those are fewer than the span says, when all
+-- items are past.
+pub record Ended (items : Items) (span : Span) (before at : ℕ) (written : Written) : Type 0 where
+  pub row : written .row ≡ at + length (spanRows items span before)
+  pub time : length (spanRows items span before) < span .messages → written .time ≡ lasting items
 
 -- A span that some section of a body gives.
 pub record Playable (items : Items) (size : ℕ) (span : Span) : Type 0 where

@@ -1,6 +1,7 @@
 // The sections of a track, played: the word of a message, a section as a stretch of a body, and the rows of that stretch in two lent
 // tables.
 mod again;
+mod rest;
 mod rows;
 mod span;
 mod walk;
@@ -9,6 +10,7 @@ mod word;
 pub use again::first_after;
 pub use again::no_first;
 pub use again::write_section;
+pub use rest::write_from;
 pub use rows::write_span;
 pub use span::span_between;
 pub use span::span_from;
@@ -20,4 +22,10 @@ pub struct First {
     pub known: bool,
     pub row: usize,
     pub before: u64,
+}
+
+// Where rows end: the index after the last, and the time that is past where the walk ended.
+pub struct Written {
+    pub row: usize,
+    pub time: u64,
 }

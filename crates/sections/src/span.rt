@@ -13,7 +13,7 @@ use model::Span;
 use model::Voice;
 
 // Where a walk begins.
-fn at_head() -> Reached
+pub fn at_head() -> Reached
     ensures { λ r. ⌜ r ≡ atHead ⌝ }
 {
     Reached {

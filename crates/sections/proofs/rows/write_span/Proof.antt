@@ -1,136 +1,20 @@
 -- `sections::rows::write_span` meets its contract.
+use Rattle.sections.proofs.Rowing.{row-begins}
 use borrow.Author.Needs.{needs}
-use Prim.Native.Nat.{_-_}
-use lib.ListN.{length}
-use native.Mathlib.Omega.{arith}
-use Rattle.sections.proofs.Rowing.{Rowing, rows-start, row-turns, row-ends}
 use Rattle.sections.proofs.rows.write_span.Statement.{statement}
 use Rattle.sections.proofs.rows.write_span.Tie as tie
 
-abbrev Inv-loop : tie.InvT-loop
-Inv-loop voice body span before steps₀ words₀ at end row₀ place₀ time₀ steps words row place time =
-    Rowing voice body span before steps₀ words₀ at end steps words row place time
+write-rows-requires : tie.Need-write-rows-requires
+write-rows-requires c κs = (search needs, (search needs, (search (needs, row-begins), (search needs, (search needs, (search (needs, row-begins), search (needs, row-begins)))))))
 
-abbrev μ-loop : tie.MeasureT-loop
-μ-loop voice body span before steps₀ words₀ at end row₀ place₀ time₀ steps words row place time = length body - place
+same-length : tie.Need-same-length
+same-length c = search needs
 
-add-end : tie.Need-add-end Inv-loop μ-loop
-add-end c = search (needs, row-turns)
+same-length-2 : tie.Need-same-length-2
+same-length-2 c = search needs
 
-loop-holds : tie.Need-loop-holds Inv-loop μ-loop
-loop-holds c =
-    rows-start _ _ _ _ _ _ (λ k. omega (arith, c .before .before .before .shared-slice-known .given k)) _
-    (search needs) (search needs) (search needs) (search needs) (search needs) (search needs)
-
-same-length : tie.Need-same-length Inv-loop μ-loop
-same-length c = search (needs, row-turns)
-
-same-length-2 : tie.Need-same-length-2 Inv-loop μ-loop
-same-length-2 c = search (needs, row-turns)
-
-returns : tie.Need-returns Inv-loop μ-loop
-returns c = search (needs, row-ends)
-
-read-item-requires : tie.Need-read-item-requires Inv-loop μ-loop
-read-item-requires c κs = search (needs, row-turns)
-
-enum-known-duration : tie.Need-enum-known-duration Inv-loop μ-loop
-enum-known-duration c = search (needs, row-turns)
-
-cast-time : tie.Need-cast-time Inv-loop μ-loop
-cast-time c = search (needs, row-turns)
-
-add-time : tie.Need-add-time Inv-loop μ-loop
-add-time c = search (needs, row-turns)
-
-is-message-requires : tie.Need-is-message-requires Inv-loop μ-loop
-is-message-requires c κs = search (needs, row-turns)
-
-sub-write-row : tie.Need-sub-write-row Inv-loop μ-loop
-sub-write-row c = search (needs, row-turns)
-
-add-write-row : tie.Need-add-write-row Inv-loop μ-loop
-add-write-row c = search (needs, row-turns)
-
-write-row-requires : tie.Need-write-row-requires Inv-loop μ-loop
-write-row-requires c κs = (search row-turns, (search row-turns, search row-turns))
-
-add-row : tie.Need-add-row Inv-loop μ-loop
-add-row c = search (needs, row-turns)
-
-loop-less : tie.Need-loop-less Inv-loop μ-loop
-loop-less c = search (needs, row-turns)
-
-loop-again : tie.Need-loop-again Inv-loop μ-loop
-loop-again c = search (needs, row-turns)
-
-loop-less-2 : tie.Need-loop-less-2 Inv-loop μ-loop
-loop-less-2 c = search (needs, row-turns)
-
-loop-again-2 : tie.Need-loop-again-2 Inv-loop μ-loop
-loop-again-2 c = search (needs, row-turns)
-
-enum-known-next : tie.Need-enum-known-next Inv-loop μ-loop
-enum-known-next c = search (needs, row-turns)
-
-loop-less-3 : tie.Need-loop-less-3 Inv-loop μ-loop
-loop-less-3 c = search (needs, row-turns)
-
-loop-again-3 : tie.Need-loop-again-3 Inv-loop μ-loop
-loop-again-3 c = search (needs, row-turns)
-
-enum-told : tie.Need-enum-told Inv-loop μ-loop
-enum-told c = search (needs, row-turns)
-
-same-length-3 : tie.Need-same-length-3 Inv-loop μ-loop
-same-length-3 c = search (needs, row-turns)
-
-same-length-4 : tie.Need-same-length-4 Inv-loop μ-loop
-same-length-4 c = search (needs, row-turns)
-
-returns-2 : tie.Need-returns-2 Inv-loop μ-loop
-returns-2 c = search (needs, row-ends)
-
-same-length-5 : tie.Need-same-length-5 Inv-loop μ-loop
-same-length-5 c = search (needs, row-turns)
-
-same-length-6 : tie.Need-same-length-6 Inv-loop μ-loop
-same-length-6 c = search (needs, row-turns)
-
-returns-3 : tie.Need-returns-3 Inv-loop μ-loop
-returns-3 c = search (needs, row-ends)
+returns : tie.Need-returns
+returns c = search needs
 
 pub write-span-spec : {M : Type 1} → statement M
-write-span-spec =
-    tie.close
-    (tie.spec
-    Inv-loop
-    μ-loop
-    add-end
-    loop-holds
-    same-length
-    same-length-2
-    returns
-    read-item-requires
-    enum-known-duration
-    cast-time
-    add-time
-    is-message-requires
-    sub-write-row
-    add-write-row
-    write-row-requires
-    add-row
-    loop-less
-    loop-again
-    loop-less-2
-    loop-again-2
-    enum-known-next
-    loop-less-3
-    loop-again-3
-    enum-told
-    same-length-3
-    same-length-4
-    returns-2
-    same-length-5
-    same-length-6
-    returns-3)
+write-span-spec = tie.close (tie.spec write-rows-requires same-length same-length-2 returns)

@@ -1,8 +1,8 @@
--- `playing::stream::play_stream` meets its contract.
+-- `playing::stream::play_counted` meets its contract.
 use Rattle.playing.proofs.Played.{stream-played}
 use borrow.Author.Needs.{needs}
-use Rattle.playing.proofs.stream.play_stream.Statement.{statement}
-use Rattle.playing.proofs.stream.play_stream.Tie as tie
+use Rattle.playing.proofs.stream.play_counted.Statement.{statement}
+use Rattle.playing.proofs.stream.play_counted.Tie as tie
 
 span-of-stream-requires : tie.Need-span-of-stream-requires
 span-of-stream-requires c κs = search needs
@@ -20,7 +20,7 @@ returns : tie.Need-returns
 returns c = (search stream-played, (search (needs, stream-played), search (needs, stream-played)))
 
 write-span-requires : tie.Need-write-span-requires
-write-span-requires c κs = (search needs, (search needs, (search stream-played, (search needs, (search (needs, stream-played), search (needs, stream-played))))))
+write-span-requires c κs = (search needs, (search needs, (search stream-played, (search needs, (search needs, search needs)))))
 
 same-length-3 : tie.Need-same-length-3
 same-length-3 c = search needs
@@ -29,10 +29,10 @@ same-length-4 : tie.Need-same-length-4
 same-length-4 c = search needs
 
 returns-2 : tie.Need-returns-2
-returns-2 c = (search stream-played, (search (needs, stream-played), search (needs, stream-played)))
+returns-2 c = (search (needs, stream-played), (search (needs, stream-played), search (needs, stream-played)))
 
-pub play-stream-spec : {M : Type 1} → statement M
-play-stream-spec =
+pub play-counted-spec : {M : Type 1} → statement M
+play-counted-spec =
     tie.close
     (tie.spec
     span-of-stream-requires

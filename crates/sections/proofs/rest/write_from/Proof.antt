@@ -1,0 +1,35 @@
+-- `sections::rest::write_from` meets its contract.
+use Rattle.sections.proofs.Onward.{onward-from}
+use Rattle.sections.proofs.Spanning.{reaching}
+use borrow.Author.Needs.{needs}
+use Rattle.sections.proofs.rest.write_from.Statement.{statement}
+use Rattle.sections.proofs.rest.write_from.Tie as tie
+
+at-head-requires : tie.Need-at-head-requires
+at-head-requires c κs = search needs
+
+walk-to-requires : tie.Need-walk-to-requires
+walk-to-requires c κs = (search needs, (search needs, (search (needs, reaching), (search needs, search (needs, reaching)))))
+
+write-on-requires : tie.Need-write-on-requires
+write-on-requires c κs = (search needs, (search needs, (search needs, (search needs, search needs))))
+
+same-length : tie.Need-same-length
+same-length c = search needs
+
+same-length-2 : tie.Need-same-length-2
+same-length-2 c = search needs
+
+returns : tie.Need-returns
+returns c = (search (needs, onward-from), (search needs, (search needs, search needs)))
+
+pub write-from-spec : {M : Type 1} → statement M
+write-from-spec =
+    tie.close
+    (tie.spec
+    at-head-requires
+    walk-to-requires
+    write-on-requires
+    same-length
+    same-length-2
+    returns)
