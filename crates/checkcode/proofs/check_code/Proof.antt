@@ -12,12 +12,9 @@ over-all-requires : tie.Need-over-all-requires
 unfolding grown tablesFrom remainderFrom byteStep bitStep if_then_else_
 over-all-requires c κs = remainders _ refl
 
-sub-result : tie.Need-sub-result
-sub-result c = search needs
-
 returns : tie.Need-returns
 unfolding checkCode
 returns c = ap (λ (x : ℕ). 0xFFFF - x) (c .over-all .ensures)
 
 pub check-code-spec : {M : Type 1} → statement M
-check-code-spec = tie.close (tie.spec over-all-requires sub-result returns)
+check-code-spec = tie.close (tie.spec over-all-requires (λ c. search needs) returns)

@@ -4,18 +4,6 @@ use Rattle.checkcode.specs.Remainders.{Remainders}
 use Rattle.checkcode.proofs.followed.Statement.{statement}
 use Rattle.checkcode.proofs.followed.Tie as tie
 
-mul-result : tie.Need-mul-result
-mul-result c = search needs
-
-add-result : tie.Need-add-result
-add-result c = search needs
-
-mul-result-2 : tie.Need-mul-result-2
-mul-result-2 c = search needs
-
-element-copy-out-result : tie.Need-element-copy-out-result
-element-copy-out-result c = search needs
-
 returns : tie.Need-returns
 unfolding Remainders
 returns c =
@@ -23,4 +11,4 @@ returns c =
     c .before .pre .0 (a .zeros) (a .byte) (search needs) (search needs)
 
 pub followed-spec : {M : Type 1} → statement M
-followed-spec = tie.close (tie.spec mul-result add-result mul-result-2 element-copy-out-result returns)
+followed-spec = tie.close (tie.spec (λ c. search needs) (λ c. search needs) (λ c. search needs) (λ c. search needs) returns)

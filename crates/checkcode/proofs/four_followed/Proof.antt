@@ -5,27 +5,6 @@ use Rattle.checkcode.proofs.Slices.{four-by-tables}
 use Rattle.checkcode.proofs.four_followed.Statement.{statement}
 use Rattle.checkcode.proofs.four_followed.Tie as tie
 
-add-followed : tie.Need-add-followed
-add-followed c = search needs
-
-followed-requires : tie.Need-followed-requires
-followed-requires c κs = search needs
-
-add-followed-2 : tie.Need-add-followed-2
-add-followed-2 c = search needs
-
-followed-requires-2 : tie.Need-followed-requires-2
-followed-requires-2 c κs = search needs
-
-add-followed-3 : tie.Need-add-followed-3
-add-followed-3 c = search needs
-
-followed-requires-3 : tie.Need-followed-requires-3
-followed-requires-3 c κs = search needs
-
-followed-requires-4 : tie.Need-followed-requires-4
-followed-requires-4 c κs = search needs
-
 returns : tie.Need-returns
 returns c =
     let third = c .before in
@@ -39,11 +18,11 @@ pub four-followed-spec : {M : Type 1} → statement M
 four-followed-spec =
     tie.close
     (tie.spec
-    add-followed
-    followed-requires
-    add-followed-2
-    followed-requires-2
-    add-followed-3
-    followed-requires-3
-    followed-requires-4
+    (λ c. search needs)
+    (λ c κs. search needs)
+    (λ c. search needs)
+    (λ c κs. search needs)
+    (λ c. search needs)
+    (λ c κs. search needs)
+    (λ c κs. search needs)
     returns)

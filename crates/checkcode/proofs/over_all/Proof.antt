@@ -10,9 +10,6 @@ use Rattle.checkcode.proofs.Parts.{in-two-parts}
 use Rattle.checkcode.proofs.over_all.Statement.{statement}
 use Rattle.checkcode.proofs.over_all.Tie as tie
 
-mul-whole : tie.Need-mul-whole
-mul-whole c = search needs
-
 slice-aggregate-over-eights : tie.Need-slice-aggregate-over-eights
 slice-aggregate-over-eights c = sym (length-take-le _ _ (omega arith))
 
@@ -20,18 +17,6 @@ over-eights-requires : tie.Need-over-eights-requires
 over-eights-requires c κs =
     let s = c .before .before .args .s .now in
     (search needs, omega (arith, length-take-le (length s / 8 * 8) s (omega arith)))
-
-sub-over-bytes : tie.Need-sub-over-bytes
-sub-over-bytes c = search needs
-
-part-over-bytes-start : tie.Need-part-over-bytes-start
-part-over-bytes-start c = search needs
-
-part-over-bytes-end : tie.Need-part-over-bytes-end
-part-over-bytes-end c = search needs
-
-over-bytes-requires : tie.Need-over-bytes-requires
-over-bytes-requires c κs = search needs
 
 returns : tie.Need-returns
 returns c =
@@ -46,11 +31,11 @@ pub over-all-spec : {M : Type 1} → statement M
 over-all-spec =
     tie.close
     (tie.spec
-    mul-whole
+    (λ c. search needs)
     slice-aggregate-over-eights
     over-eights-requires
-    sub-over-bytes
-    part-over-bytes-start
-    part-over-bytes-end
-    over-bytes-requires
+    (λ c. search needs)
+    (λ c. search needs)
+    (λ c. search needs)
+    (λ c κs. search needs)
     returns)

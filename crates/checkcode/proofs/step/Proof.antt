@@ -8,19 +8,10 @@ use Rattle.checkcode.proofs.Slices.{step-by-table}
 use Rattle.checkcode.proofs.step.Statement.{statement}
 use Rattle.checkcode.proofs.step.Tie as tie
 
-cast-followed : tie.Need-cast-followed
-cast-followed c = search needs
-
-followed-requires : tie.Need-followed-requires
-followed-requires c κs = search needs
-
-mul-result : tie.Need-mul-result
-mul-result c = search needs
-
 returns : tie.Need-returns
 returns c =
     let a = c .before .args in
     ap (λ (x : ℕ). bitXor x (a .remainder % 256 * 256)) (c .followed .ensures) ∙ step-by-table (a .remainder) (a .byte) (omega arith) (omega arith)
 
 pub step-spec : {M : Type 1} → statement M
-step-spec = tie.close (tie.spec cast-followed followed-requires mul-result returns)
+step-spec = tie.close (tie.spec (λ c. search needs) (λ c κs. search needs) (λ c. search needs) returns)

@@ -4,12 +4,6 @@ use Rattle.pitch.proofs.Signed.{minus-fits, minus-is}
 use Rattle.pitch.proofs.minus.Statement.{statement}
 use Rattle.pitch.proofs.minus.Tie as tie
 
-cast-result : tie.Need-cast-result
-cast-result c = search needs
-
-cast-result-2 : tie.Need-cast-result-2
-cast-result-2 c = search needs
-
 sub-result : tie.Need-sub-result
 sub-result c = search minus-fits
 
@@ -17,4 +11,4 @@ returns : tie.Need-returns
 returns c = search minus-is
 
 pub minus-spec : {M : Type 1} → statement M
-minus-spec = tie.close (tie.spec cast-result cast-result-2 sub-result returns)
+minus-spec = tie.close (tie.spec (λ c. search needs) (λ c. search needs) sub-result returns)

@@ -7,15 +7,9 @@ use Rattle.pitch.proofs.Signed.{kept}
 use Rattle.pitch.proofs.pitch_of.Statement.{statement}
 use Rattle.pitch.proofs.pitch_of.Tie as tie
 
-is-note-requires : tie.Need-is-note-requires
-is-note-requires c κs = search needs
-
 returns : tie.Need-returns
 unfolding pitchOf
 returns c = search (tests, junctions) depth 9 fits 20000
-
-is-shift-requires : tie.Need-is-shift-requires
-is-shift-requires c κs = search needs
 
 returns-2 : tie.Need-returns-2
 unfolding pitchOf
@@ -31,4 +25,4 @@ returns-3 c = search (tests, not-off, kept) depth 9 fits 20000
 pub pitch-of-spec : {M : Type 1} → statement M
 pitch-of-spec =
     tie.close
-    (tie.spec is-note-requires returns is-shift-requires returns-2 semitones-requires returns-3)
+    (tie.spec (λ c κs. search needs) returns (λ c κs. search needs) returns-2 semitones-requires returns-3)

@@ -7,21 +7,6 @@ use Rattle.pitch.proofs.Counts.{raised, lowered, down}
 use Rattle.pitch.proofs.semitones.Statement.{statement}
 use Rattle.pitch.proofs.semitones.Tie as tie
 
-mul-up : tie.Need-mul-up
-mul-up c = search needs
-
-add-up : tie.Need-add-up
-add-up c = search needs
-
-mul-minus : tie.Need-mul-minus
-mul-minus c = search needs
-
-add-minus : tie.Need-add-minus
-add-minus c = search needs
-
-minus-requires : tie.Need-minus-requires
-minus-requires c κs = search needs
-
 returns : tie.Need-returns
 returns c = search (raised, kept)
 
@@ -37,9 +22,6 @@ mul-minus-2 c = omega (arith, lower c)
 add-minus-2 : tie.Need-add-minus-2
 add-minus-2 c = omega (arith, lower c)
 
-minus-requires-2 : tie.Need-minus-requires-2
-minus-requires-2 c κs = search needs
-
 returns-2 : tie.Need-returns-2
 returns-2 c = search (lowered, kept)
 
@@ -47,14 +29,14 @@ pub semitones-spec : {M : Type 1} → statement M
 semitones-spec =
     tie.close
     (tie.spec
-    mul-up
-    add-up
-    mul-minus
-    add-minus
-    minus-requires
+    (λ c. search needs)
+    (λ c. search needs)
+    (λ c. search needs)
+    (λ c. search needs)
+    (λ c κs. search needs)
     returns
     sub-minus
     mul-minus-2
     add-minus-2
-    minus-requires-2
+    (λ c κs. search needs)
     returns-2)

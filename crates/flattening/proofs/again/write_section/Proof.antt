@@ -8,17 +8,8 @@ use Rattle.flattening.proofs.again.write_section.Tie as tie
 write-messages-requires : tie.Need-write-messages-requires
 write-messages-requires c κs = (search needs, (search needs, (search needs, (omega arith, (search needs, search needs)))))
 
-same-length : tie.Need-same-length
-same-length c = search needs
-
-returns : tie.Need-returns
-returns c = search needs
-
 write-again-requires : tie.Need-write-again-requires
 write-again-requires c κs = (search needs, (search needs, (search again, (search again, (search again, search again)))))
-
-same-length-2 : tie.Need-same-length-2
-same-length-2 c = search needs
 
 returns-2 : tie.Need-returns-2
 returns-2 c = (search again, (search again, search again))
@@ -31,9 +22,9 @@ write-section-spec =
     tie.close
     (tie.spec
     write-messages-requires
-    same-length
-    returns
+    (λ c. search needs)
+    (λ c. search needs)
     write-again-requires
-    same-length-2
+    (λ c. search needs)
     returns-2
     returns-3)

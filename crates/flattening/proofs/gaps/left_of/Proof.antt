@@ -4,15 +4,6 @@ use borrow.Author.Needs.{needs}
 use Rattle.flattening.proofs.gaps.left_of.Statement.{statement}
 use Rattle.flattening.proofs.gaps.left_of.Tie as tie
 
-times-of-requires : tie.Need-times-of-requires
-times-of-requires c κs = search needs
-
-mul-result : tie.Need-mul-result
-mul-result c = search needs
-
-sub-result : tie.Need-sub-result
-sub-result c = search needs
-
 cast-result : tie.Need-cast-result
 cast-result c = search (needs, sizes)
 
@@ -20,4 +11,4 @@ returns : tie.Need-returns
 returns c = (search sizes, search sizes)
 
 pub left-of-spec : {M : Type 1} → statement M
-left-of-spec = tie.close (tie.spec times-of-requires mul-result sub-result cast-result returns)
+left-of-spec = tie.close (tie.spec (λ c κs. search needs) (λ c. search needs) (λ c. search needs) cast-result returns)

@@ -7,14 +7,8 @@ use Rattle.flattening.proofs.gaps.write_gap.Tie as tie
 write-waits-requires : tie.Need-write-waits-requires
 write-waits-requires c κs = search (needs, gaps)
 
-left-of-requires : tie.Need-left-of-requires
-left-of-requires c κs = search needs
-
 write-duration-requires : tie.Need-write-duration-requires
 write-duration-requires c κs = (search needs, search (needs, gaps))
-
-same-length : tie.Need-same-length
-same-length c = search needs
 
 returns : tie.Need-returns
 returns c = (search gaps, search gaps)
@@ -22,4 +16,4 @@ returns c = (search gaps, search gaps)
 pub write-gap-spec : {M : Type 1} → statement M
 write-gap-spec =
     tie.close
-    (tie.spec write-waits-requires left-of-requires write-duration-requires same-length returns)
+    (tie.spec write-waits-requires (λ c κs. search needs) write-duration-requires (λ c. search needs) returns)

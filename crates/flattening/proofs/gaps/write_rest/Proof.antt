@@ -7,12 +7,6 @@ use Rattle.flattening.proofs.gaps.write_rest.Tie as tie
 write-waits-requires : tie.Need-write-waits-requires
 write-waits-requires c κs = search (needs, rests)
 
-left-of-requires : tie.Need-left-of-requires
-left-of-requires c κs = search needs
-
-same-length : tie.Need-same-length
-same-length c = search needs
-
 returns : tie.Need-returns
 returns c = search (needs, rests)
 
@@ -22,9 +16,6 @@ write-duration-requires c κs = search (needs, rests)
 write-nop-requires : tie.Need-write-nop-requires
 write-nop-requires c κs = search (needs, rests)
 
-same-length-2 : tie.Need-same-length-2
-same-length-2 c = search needs
-
 returns-2 : tie.Need-returns-2
 returns-2 c = search (needs, rests)
 
@@ -33,10 +24,10 @@ write-rest-spec =
     tie.close
     (tie.spec
     write-waits-requires
-    left-of-requires
-    same-length
+    (λ c κs. search needs)
+    (λ c. search needs)
     returns
     write-duration-requires
     write-nop-requires
-    same-length-2
+    (λ c. search needs)
     returns-2)

@@ -17,9 +17,6 @@ slice-aggregate-flatten-stated c = search (needs, front-length)
 flatten-stated-requires : tie.Need-flatten-stated-requires
 flatten-stated-requires c κs = search (needs, buffers-flattened)
 
-same-length : tie.Need-same-length
-same-length c = search needs
-
 returns-3 : tie.Need-returns-3
 returns-3 c = (search (needs, buffers-flattened), search (needs, buffers-flattened))
 
@@ -31,5 +28,5 @@ flatten-spec =
     returns-2
     slice-aggregate-flatten-stated
     flatten-stated-requires
-    same-length
+    (λ c. search needs)
     returns-3)

@@ -4,20 +4,8 @@ use borrow.Author.Needs.{needs}
 use Rattle.flattening.proofs.operation.flatten_row.Statement.{statement}
 use Rattle.flattening.proofs.operation.flatten_row.Tie as tie
 
-open-track-requires : tie.Need-open-track-requires
-open-track-requires c κs = search needs
-
-enum-known-bodies : tie.Need-enum-known-bodies
-enum-known-bodies c = search needs
-
 flatten-bodies-requires : tie.Need-flatten-bodies-requires
 flatten-bodies-requires c κs = search (needs, rows-flattened)
-
-enum-told : tie.Need-enum-told
-enum-told c = search needs
-
-same-length : tie.Need-same-length
-same-length c = search needs
 
 returns : tie.Need-returns
 returns c = (search rows-flattened, search rows-flattened)
@@ -29,10 +17,10 @@ pub flatten-row-spec : {M : Type 1} → statement M
 flatten-row-spec =
     tie.close
     (tie.spec
-    open-track-requires
-    enum-known-bodies
+    (λ c κs. search needs)
+    (λ c. search needs)
     flatten-bodies-requires
-    enum-told
-    same-length
+    (λ c. search needs)
+    (λ c. search needs)
     returns
     returns-2)

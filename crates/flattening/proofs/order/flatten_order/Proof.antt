@@ -4,9 +4,6 @@ use borrow.Author.Needs.{needs}
 use Rattle.flattening.proofs.order.flatten_order.Statement.{statement}
 use Rattle.flattening.proofs.order.flatten_order.Tie as tie
 
-measure-order-requires : tie.Need-measure-order-requires
-measure-order-requires c κs = search needs
-
 returns : tie.Need-returns
 returns c = (search flattened-order, search flattened-order)
 
@@ -17,13 +14,10 @@ write-order-requires : tie.Need-write-order-requires
 write-order-requires c κs =
     (search needs, (search needs, (search needs, (search needs, (search needs, (search flattened-order, (search flattened-order, search flattened-order)))))))
 
-same-length : tie.Need-same-length
-same-length c = search needs
-
 returns-3 : tie.Need-returns-3
 returns-3 c = (search flattened-order, search flattened-order)
 
 pub flatten-order-spec : {M : Type 1} → statement M
 flatten-order-spec =
     tie.close
-    (tie.spec measure-order-requires returns returns-2 write-order-requires same-length returns-3)
+    (tie.spec (λ c κs. search needs) returns returns-2 write-order-requires (λ c. search needs) returns-3)

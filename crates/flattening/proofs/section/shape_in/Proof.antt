@@ -4,11 +4,8 @@ use borrow.Author.Needs.{needs}
 use Rattle.flattening.proofs.section.shape_in.Statement.{statement}
 use Rattle.flattening.proofs.section.shape_in.Tie as tie
 
-time-after-requires : tie.Need-time-after-requires
-time-after-requires c κs = search needs
-
 returns : tie.Need-returns
 returns c = search shape-known
 
 pub shape-in-spec : {M : Type 1} → statement M
-shape-in-spec = tie.close (tie.spec time-after-requires returns)
+shape-in-spec = tie.close (tie.spec (λ c κs. search needs) returns)

@@ -7,14 +7,8 @@ use Rattle.flattening.proofs.section.write_message.Tie as tie
 write-waits-requires : tie.Need-write-waits-requires
 write-waits-requires c κs = search (needs, message)
 
-left-of-requires : tie.Need-left-of-requires
-left-of-requires c κs = search needs
-
 write-item-requires : tie.Need-write-item-requires
 write-item-requires c κs = search (needs, message)
-
-same-length : tie.Need-same-length
-same-length c = search needs
 
 returns : tie.Need-returns
 returns c = search (needs, message)
@@ -22,4 +16,4 @@ returns c = search (needs, message)
 pub write-message-spec : {M : Type 1} → statement M
 write-message-spec =
     tie.close
-    (tie.spec write-waits-requires left-of-requires write-item-requires same-length returns)
+    (tie.spec write-waits-requires (λ c κs. search needs) write-item-requires (λ c. search needs) returns)

@@ -6,32 +6,17 @@ use borrow.Author.Needs.{needs}
 use Rattle.items.proofs.body.read_setup_message.Statement.{statement}
 use Rattle.items.proofs.body.read_setup_message.Tie as tie
 
-sub-if1 : tie.Need-sub-if1
-sub-if1 c = search needs
-
 returns : tie.Need-returns
 unfolding setupMessageAt
 returns c = search (tests, junctions, twos) depth 9 fits 20000
-
-shared-slice-read-if2 : tie.Need-shared-slice-read-if2
-shared-slice-read-if2 c = search needs
 
 returns-2 : tie.Need-returns-2
 unfolding setupMessageAt
 returns-2 c = search (tests, junctions, twos) depth 9 fits 20000
 
-add-if3 : tie.Need-add-if3
-add-if3 c = search needs
-
-shared-slice-read-if3 : tie.Need-shared-slice-read-if3
-shared-slice-read-if3 c = search needs
-
 returns-3 : tie.Need-returns-3
 unfolding setupMessageAt
 returns-3 c = search (tests, junctions, twos) depth 9 fits 20000
-
-read-exclusive-requires : tie.Need-read-exclusive-requires
-read-exclusive-requires c κs = search needs
 
 returns-4 : tie.Need-returns-4
 unfolding setupMessageAt
@@ -41,12 +26,12 @@ pub read-setup-message-spec : {M : Type 1} → statement M
 read-setup-message-spec =
     tie.close
     (tie.spec
-    sub-if1
+    (λ c. search needs)
     returns
-    shared-slice-read-if2
+    (λ c. search needs)
     returns-2
-    add-if3
-    shared-slice-read-if3
+    (λ c. search needs)
+    (λ c. search needs)
     returns-3
-    read-exclusive-requires
+    (λ c κs. search needs)
     returns-4)

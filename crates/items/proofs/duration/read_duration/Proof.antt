@@ -9,15 +9,6 @@ returns : tie.Need-returns
 unfolding durationAt
 returns c = search tests depth 9 fits 20000
 
-shared-slice-read-one : tie.Need-shared-slice-read-one
-shared-slice-read-one c = search needs
-
-add-next : tie.Need-add-next
-add-next c = search needs
-
-wide-requires : tie.Need-wide-requires
-wide-requires c κs = search needs
-
 returns-2 : tie.Need-returns-2
 unfolding durationAt
 returns-2 c = search tests depth 9 fits 20000
@@ -25,15 +16,6 @@ returns-2 c = search tests depth 9 fits 20000
 returns-3 : tie.Need-returns-3
 unfolding durationAt
 returns-3 c = search tests depth 9 fits 20000
-
-shared-slice-read-two : tie.Need-shared-slice-read-two
-shared-slice-read-two c = search needs
-
-two-byte-value-requires : tie.Need-two-byte-value-requires
-two-byte-value-requires c κs = search needs
-
-add-t13 : tie.Need-add-t13
-add-t13 c = search needs
 
 returns-4 : tie.Need-returns-4
 unfolding durationAt
@@ -48,13 +30,13 @@ read-duration-spec =
     tie.close
     (tie.spec
     returns
-    shared-slice-read-one
-    add-next
-    wide-requires
+    (λ c. search needs)
+    (λ c. search needs)
+    (λ c κs. search needs)
     returns-2
     returns-3
-    shared-slice-read-two
-    two-byte-value-requires
-    add-t13
+    (λ c. search needs)
+    (λ c κs. search needs)
+    (λ c. search needs)
     returns-4
     returns-5)

@@ -6,18 +6,9 @@ use borrow.Author.Needs.{needs}
 use Rattle.items.proofs.duration.read_gate.Statement.{statement}
 use Rattle.items.proofs.duration.read_gate.Tie as tie
 
-read-duration-requires : tie.Need-read-duration-requires
-read-duration-requires c κs = search needs
-
-enum-known-value : tie.Need-enum-known-value
-enum-known-value c = search needs
-
 returns : tie.Need-returns
 unfolding gateAt
 returns c = search (tests, matches) depth 9 fits 20000
-
-enum-told : tie.Need-enum-told
-enum-told c = search needs
 
 returns-2 : tie.Need-returns-2
 unfolding gateAt
@@ -30,4 +21,4 @@ returns-3 c = search (tests, matches) depth 9 fits 20000
 pub read-gate-spec : {M : Type 1} → statement M
 read-gate-spec =
     tie.close
-    (tie.spec read-duration-requires enum-known-value returns enum-told returns-2 returns-3)
+    (tie.spec (λ c κs. search needs) (λ c. search needs) returns (λ c. search needs) returns-2 returns-3)

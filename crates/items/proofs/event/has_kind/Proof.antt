@@ -6,12 +6,6 @@ use borrow.Author.Needs.{needs}
 use Rattle.items.proofs.event.has_kind.Statement.{statement}
 use Rattle.items.proofs.event.has_kind.Tie as tie
 
-enum-told : tie.Need-enum-told
-enum-told c = search needs
-
-enum-told-2 : tie.Need-enum-told-2
-enum-told-2 c = search needs
-
 returns : tie.Need-returns
 returns c = search (tests, junctions, matches) depth 9 fits 20000
 
@@ -22,4 +16,4 @@ returns-3 : tie.Need-returns-3
 returns-3 c = search (tests, junctions, matches) depth 9 fits 20000
 
 pub has-kind-spec : {M : Type 1} → statement M
-has-kind-spec = tie.close (tie.spec enum-told enum-told-2 returns returns-2 returns-3)
+has-kind-spec = tie.close (tie.spec (λ c. search needs) (λ c. search needs) returns returns-2 returns-3)

@@ -5,18 +5,6 @@ use borrow.Author.Needs.{needs}
 use Rattle.items.proofs.event.is_sound.Statement.{statement}
 use Rattle.items.proofs.event.is_sound.Tie as tie
 
-enum-told : tie.Need-enum-told
-enum-told c = search needs
-
-is-note-requires : tie.Need-is-note-requires
-is-note-requires c κs = search needs
-
-enum-told-2 : tie.Need-enum-told-2
-enum-told-2 c = search needs
-
-is-wave-requires : tie.Need-is-wave-requires
-is-wave-requires c κs = search needs
-
 returns : tie.Need-returns
 returns c = search (tests, matches) depth 9 fits 20000
 
@@ -25,4 +13,4 @@ returns-2 c = search (tests, matches) depth 9 fits 20000
 
 pub is-sound-spec : {M : Type 1} → statement M
 is-sound-spec =
-    tie.close (tie.spec enum-told is-note-requires enum-told-2 is-wave-requires returns returns-2)
+    tie.close (tie.spec (λ c. search needs) (λ c κs. search needs) (λ c. search needs) (λ c κs. search needs) returns returns-2)

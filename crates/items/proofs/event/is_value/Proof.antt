@@ -9,9 +9,6 @@ returns : tie.Need-returns
 unfolding isValue
 returns c = search tests depth 9 fits 20000
 
-is-shift-requires : tie.Need-is-shift-requires
-is-shift-requires c κs = search needs
-
 returns-2 : tie.Need-returns-2
 unfolding isValue
 returns-2 c = search tests depth 9 fits 20000
@@ -21,4 +18,4 @@ unfolding isValue
 returns-3 c = search tests depth 9 fits 20000
 
 pub is-value-spec : {M : Type 1} → statement M
-is-value-spec = tie.close (tie.spec returns is-shift-requires returns-2 returns-3)
+is-value-spec = tie.close (tie.spec returns (λ c κs. search needs) returns-2 returns-3)

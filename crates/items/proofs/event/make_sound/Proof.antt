@@ -5,12 +5,6 @@ use borrow.Author.Needs.{needs}
 use Rattle.items.proofs.event.make_sound.Statement.{statement}
 use Rattle.items.proofs.event.make_sound.Tie as tie
 
-enum-told : tie.Need-enum-told
-enum-told c = search needs
-
-enum-told-2 : tie.Need-enum-told-2
-enum-told-2 c = search needs
-
 returns : tie.Need-returns
 returns c = search (tests, matches) depth 9 fits 20000
 
@@ -18,4 +12,4 @@ returns-2 : tie.Need-returns-2
 returns-2 c = search (tests, matches) depth 9 fits 20000
 
 pub make-sound-spec : {M : Type 1} → statement M
-make-sound-spec = tie.close (tie.spec enum-told enum-told-2 returns returns-2)
+make-sound-spec = tie.close (tie.spec (λ c. search needs) (λ c. search needs) returns returns-2)

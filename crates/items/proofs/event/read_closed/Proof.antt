@@ -9,25 +9,13 @@ returns : tie.Need-returns
 unfolding closedAt
 returns c = search tests depth 9 fits 20000
 
-add-last : tie.Need-add-last
-add-last c = search needs
-
-add-last-2 : tie.Need-add-last-2
-add-last-2 c = search needs
-
 returns-2 : tie.Need-returns-2
 unfolding closedAt
 returns-2 c = search tests depth 9 fits 20000
 
-shared-slice-read-if3 : tie.Need-shared-slice-read-if3
-shared-slice-read-if3 c = search needs
-
 returns-3 : tie.Need-returns-3
 unfolding closedAt
 returns-3 c = search tests depth 9 fits 20000
-
-add-t7 : tie.Need-add-t7
-add-t7 c = search needs
 
 returns-4 : tie.Need-returns-4
 unfolding closedAt
@@ -38,10 +26,10 @@ read-closed-spec =
     tie.close
     (tie.spec
     returns
-    add-last
-    add-last-2
+    (λ c. search needs)
+    (λ c. search needs)
     returns-2
-    shared-slice-read-if3
+    (λ c. search needs)
     returns-3
-    add-t7
+    (λ c. search needs)
     returns-4)

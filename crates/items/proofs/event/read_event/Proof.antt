@@ -9,25 +9,13 @@ returns : tie.Need-returns
 unfolding eventAt
 returns c = search tests depth 9 fits 20000
 
-shared-slice-read-byte : tie.Need-shared-slice-read-byte
-shared-slice-read-byte c = search needs
-
-read-control-requires : tie.Need-read-control-requires
-read-control-requires c κs = search needs
-
 returns-2 : tie.Need-returns-2
 unfolding eventAt
 returns-2 c = search tests depth 9 fits 20000
 
-read-system-requires : tie.Need-read-system-requires
-read-system-requires c κs = search needs
-
 returns-3 : tie.Need-returns-3
 unfolding eventAt
 returns-3 c = search tests depth 9 fits 20000
-
-read-sound-requires : tie.Need-read-sound-requires
-read-sound-requires c κs = search needs
 
 returns-4 : tie.Need-returns-4
 unfolding eventAt
@@ -38,10 +26,10 @@ read-event-spec =
     tie.close
     (tie.spec
     returns
-    shared-slice-read-byte
-    read-control-requires
+    (λ c. search needs)
+    (λ c κs. search needs)
     returns-2
-    read-system-requires
+    (λ c κs. search needs)
     returns-3
-    read-sound-requires
+    (λ c κs. search needs)
     returns-4)

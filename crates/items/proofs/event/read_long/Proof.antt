@@ -10,35 +10,17 @@ returns : tie.Need-returns
 unfolding longAt
 returns c = search (tests, junctions) depth 9 fits 20000
 
-has-kind-requires : tie.Need-has-kind-requires
-has-kind-requires c κs = search needs
-
 returns-2 : tie.Need-returns-2
 unfolding longAt
 returns-2 c = search (tests, junctions) depth 9 fits 20000
-
-add-if3 : tie.Need-add-if3
-add-if3 c = search needs
 
 returns-3 : tie.Need-returns-3
 unfolding longAt
 returns-3 c = search (tests, junctions) depth 9 fits 20000
 
-add-value : tie.Need-add-value
-add-value c = search needs
-
-shared-slice-read-value : tie.Need-shared-slice-read-value
-shared-slice-read-value c = search needs
-
-is-value-requires : tie.Need-is-value-requires
-is-value-requires c κs = search needs
-
 returns-4 : tie.Need-returns-4
 unfolding longAt
 returns-4 c = search (tests, junctions) depth 9 fits 20000
-
-add-t9 : tie.Need-add-t9
-add-t9 c = search needs
 
 returns-5 : tie.Need-returns-5
 unfolding longAt
@@ -49,13 +31,13 @@ read-long-spec =
     tie.close
     (tie.spec
     returns
-    has-kind-requires
+    (λ c κs. search needs)
     returns-2
-    add-if3
+    (λ c. search needs)
     returns-3
-    add-value
-    shared-slice-read-value
-    is-value-requires
+    (λ c. search needs)
+    (λ c. search needs)
+    (λ c κs. search needs)
     returns-4
-    add-t9
+    (λ c. search needs)
     returns-5)

@@ -6,9 +6,6 @@ use borrow.Author.Needs.{needs}
 use Rattle.items.proofs.event.read_short.Statement.{statement}
 use Rattle.items.proofs.event.read_short.Tie as tie
 
-has-kind-requires : tie.Need-has-kind-requires
-has-kind-requires c κs = search needs
-
 returns : tie.Need-returns
 unfolding shortAt
 returns c = search (tests, junctions) depth 9 fits 20000
@@ -21,13 +18,10 @@ returns-3 : tie.Need-returns-3
 unfolding shortAt
 returns-3 c = search (tests, junctions) depth 9 fits 20000
 
-add-t9 : tie.Need-add-t9
-add-t9 c = search needs
-
 returns-4 : tie.Need-returns-4
 unfolding shortAt
 returns-4 c = search (tests, junctions) depth 9 fits 20000
 
 pub read-short-spec : {M : Type 1} → statement M
 read-short-spec =
-    tie.close (tie.spec has-kind-requires returns returns-2 returns-3 add-t9 returns-4)
+    tie.close (tie.spec (λ c κs. search needs) returns returns-2 returns-3 (λ c. search needs) returns-4)

@@ -5,28 +5,13 @@ use borrow.Author.Needs.{needs}
 use Rattle.items.proofs.event.read_system.Statement.{statement}
 use Rattle.items.proofs.event.read_system.Tie as tie
 
-add-if1 : tie.Need-add-if1
-add-if1 c = search needs
-
 returns : tie.Need-returns
 unfolding systemAt
 returns c = search tests depth 9 fits 20000
 
-add-byte : tie.Need-add-byte
-add-byte c = search needs
-
-shared-slice-read-byte : tie.Need-shared-slice-read-byte
-shared-slice-read-byte c = search needs
-
-add-t10 : tie.Need-add-t10
-add-t10 c = search needs
-
 returns-2 : tie.Need-returns-2
 unfolding systemAt
 returns-2 c = search tests depth 9 fits 20000
-
-read-exclusive-requires : tie.Need-read-exclusive-requires
-read-exclusive-requires c κs = search needs
 
 returns-3 : tie.Need-returns-3
 unfolding systemAt
@@ -40,12 +25,12 @@ pub read-system-spec : {M : Type 1} → statement M
 read-system-spec =
     tie.close
     (tie.spec
-    add-if1
+    (λ c. search needs)
     returns
-    add-byte
-    shared-slice-read-byte
-    add-t10
+    (λ c. search needs)
+    (λ c. search needs)
+    (λ c. search needs)
     returns-2
-    read-exclusive-requires
+    (λ c κs. search needs)
     returns-3
     returns-4)

@@ -9,22 +9,13 @@ use Rattle.items.proofs.standard.standard_value.Tie as tie
 returns : tie.Need-returns
 returns c = search standard-past
 
-array-read-result : tie.Need-array-read-result
-array-read-result c = search needs
-
 returns-2 : tie.Need-returns-2
 unfolding standardValue
 returns-2 c = search tests depth 9 fits 20000
 
-array-read-result-2 : tie.Need-array-read-result-2
-array-read-result-2 c = search needs
-
 returns-3 : tie.Need-returns-3
 unfolding standardValue
 returns-3 c = search tests depth 9 fits 20000
-
-array-read-result-3 : tie.Need-array-read-result-3
-array-read-result-3 c = search needs
 
 returns-4 : tie.Need-returns-4
 unfolding standardValue
@@ -35,9 +26,9 @@ standard-value-spec =
     tie.close
     (tie.spec
     returns
-    array-read-result
+    (λ c. search needs)
     returns-2
-    array-read-result-2
+    (λ c. search needs)
     returns-3
-    array-read-result-3
+    (λ c. search needs)
     returns-4)

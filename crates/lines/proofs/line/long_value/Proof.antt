@@ -9,12 +9,9 @@ returns : tie.Need-returns
 unfolding longValueOf
 returns c = search tests depth 9 fits 20000
 
-standard-value-requires : tie.Need-standard-value-requires
-standard-value-requires c κs = search needs
-
 returns-2 : tie.Need-returns-2
 unfolding longValueOf
 returns-2 c = search tests depth 9 fits 20000
 
 pub long-value-spec : {M : Type 1} → statement M
-long-value-spec = tie.close (tie.spec returns standard-value-requires returns-2)
+long-value-spec = tie.close (tie.spec returns (λ c κs. search needs) returns-2)

@@ -7,11 +7,5 @@ use Rattle.lines.proofs.line.shift_of.Tie as tie
 returns : tie.Need-returns
 returns c = search (needs, no-shift)
 
-array-read-result : tie.Need-array-read-result
-array-read-result c = search needs
-
-returns-2 : tie.Need-returns-2
-returns-2 c = search needs
-
 pub shift-of-spec : {M : Type 1} → statement M
-shift-of-spec = tie.close (tie.spec returns array-read-result returns-2)
+shift-of-spec = tie.close (tie.spec returns (λ c. search needs) (λ c. search needs))

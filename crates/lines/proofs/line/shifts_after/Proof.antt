@@ -4,26 +4,8 @@ use borrow.Author.Needs.{needs}
 use Rattle.lines.proofs.line.shifts_after.Statement.{statement}
 use Rattle.lines.proofs.line.shifts_after.Tie as tie
 
-enum-known-event : tie.Need-enum-known-event
-enum-known-event c = search needs
-
-shifted-requires : tie.Need-shifted-requires
-shifted-requires c κs = search needs
-
 returns : tie.Need-returns
 returns c = search (needs, shifting)
-
-enum-told : tie.Need-enum-told
-enum-told c = search needs
-
-enum-told-2 : tie.Need-enum-told-2
-enum-told-2 c = search needs
-
-enum-told-3 : tie.Need-enum-told-3
-enum-told-3 c = search needs
-
-enum-told-4 : tie.Need-enum-told-4
-enum-told-4 c = search needs
 
 returns-2 : tie.Need-returns-2
 returns-2 c = search (needs, shifting)
@@ -44,13 +26,13 @@ pub shifts-after-spec : {M : Type 1} → statement M
 shifts-after-spec =
     tie.close
     (tie.spec
-    enum-known-event
-    shifted-requires
+    (λ c. search needs)
+    (λ c κs. search needs)
     returns
-    enum-told
-    enum-told-2
-    enum-told-3
-    enum-told-4
+    (λ c. search needs)
+    (λ c. search needs)
+    (λ c. search needs)
+    (λ c. search needs)
     returns-2
     returns-3
     returns-4

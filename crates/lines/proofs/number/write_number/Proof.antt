@@ -14,12 +14,9 @@ slice-write-out c = search (needs, closes)
 add-result : tie.Need-add-result
 add-result c = omega (arith, slice-write-out c)
 
-same-length : tie.Need-same-length
-same-length c = search needs
-
 returns : tie.Need-returns
 returns c = search (needs, closes)
 
 pub write-number-spec : {M : Type 1} → statement M
 write-number-spec =
-    tie.close (tie.spec write-decimal-requires slice-write-out add-result same-length returns)
+    tie.close (tie.spec write-decimal-requires slice-write-out add-result (λ c. search needs) returns)

@@ -4,14 +4,8 @@ use borrow.Author.Needs.{needs}
 use Rattle.lines.proofs.number.write_text.Statement.{statement}
 use Rattle.lines.proofs.number.write_text.Tie as tie
 
-copy-part-requires : tie.Need-copy-part-requires
-copy-part-requires c κs = search needs
-
-same-length : tie.Need-same-length
-same-length c = search needs
-
 returns : tie.Need-returns
 returns c = search (needs, whole-part)
 
 pub write-text-spec : {M : Type 1} → statement M
-write-text-spec = tie.close (tie.spec copy-part-requires same-length returns)
+write-text-spec = tie.close (tie.spec (λ c κs. search needs) (λ c. search needs) returns)

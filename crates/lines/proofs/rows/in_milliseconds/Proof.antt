@@ -7,8 +7,5 @@ use Rattle.lines.proofs.rows.in_milliseconds.Tie as tie
 mul-result : tie.Need-mul-result
 mul-result c = search (needs, milliseconds-fit)
 
-returns : tie.Need-returns
-returns c = search needs
-
 pub in-milliseconds-spec : {M : Type 1} → statement M
-in-milliseconds-spec = tie.close (tie.spec mul-result returns)
+in-milliseconds-spec = tie.close (tie.spec mul-result (λ c. search needs))

@@ -14,21 +14,9 @@ returns-2 : tie.Need-returns-2
 unfolding topMet
 returns-2 c = search (tests, chunk-tops) depth 9 fits 20000
 
-sub-end : tie.Need-sub-end
-sub-end c = search needs
-
 returns-3 : tie.Need-returns-3
 unfolding topMet
 returns-3 c = search (tests, chunk-tops) depth 9 fits 20000
-
-read-chunk-requires : tie.Need-read-chunk-requires
-read-chunk-requires c κs = search needs
-
-enum-told : tie.Need-enum-told
-enum-told c = search needs
-
-enum-known-size : tie.Need-enum-known-size
-enum-known-size c = search needs
 
 open-top-requires : tie.Need-open-top-requires
 open-top-requires c κs = search (needs, chunk-tops)
@@ -47,11 +35,11 @@ top-at-spec =
     (tie.spec
     returns
     returns-2
-    sub-end
+    (λ c. search needs)
     returns-3
-    read-chunk-requires
-    enum-told
-    enum-known-size
+    (λ c κs. search needs)
+    (λ c. search needs)
+    (λ c. search needs)
     open-top-requires
     returns-4
     returns-5)

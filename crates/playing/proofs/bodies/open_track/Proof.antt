@@ -4,17 +4,8 @@ use borrow.Author.Needs.{needs}
 use Rattle.playing.proofs.bodies.open_track.Statement.{statement}
 use Rattle.playing.proofs.bodies.open_track.Tie as tie
 
-find-track-requires : tie.Need-find-track-requires
-find-track-requires c κs = search needs
-
-enum-known-voice : tie.Need-enum-known-voice
-enum-known-voice c = search needs
-
 open-at-requires : tie.Need-open-at-requires
 open-at-requires c κs = ((search rows-named, search needs), search rows-named)
-
-enum-told : tie.Need-enum-told
-enum-told c = search needs
 
 returns : tie.Need-returns
 returns c = search rows-named
@@ -25,4 +16,4 @@ returns-2 c = search rows-named
 pub open-track-spec : {M : Type 1} → statement M
 open-track-spec =
     tie.close
-    (tie.spec find-track-requires enum-known-voice open-at-requires enum-told returns returns-2)
+    (tie.spec (λ c κs. search needs) (λ c. search needs) open-at-requires (λ c. search needs) returns returns-2)

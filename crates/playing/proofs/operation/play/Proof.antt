@@ -17,12 +17,6 @@ slice-aggregate-play-stated c = search (needs, front-length)
 play-stated-requires : tie.Need-play-stated-requires
 play-stated-requires c κs = search (needs, buffers-played)
 
-same-length : tie.Need-same-length
-same-length c = search needs
-
-same-length-2 : tie.Need-same-length-2
-same-length-2 c = search needs
-
 returns-3 : tie.Need-returns-3
 returns-3 c = (search (needs, buffers-played), (search (needs, buffers-played), search (needs, buffers-played)))
 
@@ -34,6 +28,6 @@ play-spec =
     returns-2
     slice-aggregate-play-stated
     play-stated-requires
-    same-length
-    same-length-2
+    (λ c. search needs)
+    (λ c. search needs)
     returns-3)

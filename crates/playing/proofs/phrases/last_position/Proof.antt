@@ -5,9 +5,6 @@ use borrow.Author.Needs.{needs}
 use Rattle.playing.proofs.phrases.last_position.Statement.{statement}
 use Rattle.playing.proofs.phrases.last_position.Tie as tie
 
-cast-result : tie.Need-cast-result
-cast-result c = search needs
-
 returns : tie.Need-returns
 unfolding lastPosition
 returns c = search tests
@@ -17,4 +14,4 @@ unfolding lastPosition
 returns-2 c = search tests
 
 pub last-position-spec : {M : Type 1} → statement M
-last-position-spec = tie.close (tie.spec cast-result returns returns-2)
+last-position-spec = tie.close (tie.spec (λ c. search needs) returns returns-2)

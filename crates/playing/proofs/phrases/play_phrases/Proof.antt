@@ -5,9 +5,6 @@ use borrow.Author.Needs.{needs}
 use Rattle.playing.proofs.phrases.play_phrases.Statement.{statement}
 use Rattle.playing.proofs.phrases.play_phrases.Tie as tie
 
-points-of-requires : tie.Need-points-of-requires
-points-of-requires c κs = search needs
-
 returns : tie.Need-returns
 returns c = (search (orders, order-played), (search (orders, order-played), search (orders, order-played)))
 
@@ -17,23 +14,14 @@ letters-played-requires c κs = search orders
 play-letters-requires : tie.Need-play-letters-requires
 play-letters-requires c κs = (search needs, (search orders, (search orders, search orders)))
 
-same-length : tie.Need-same-length
-same-length c = search needs
-
-same-length-2 : tie.Need-same-length-2
-same-length-2 c = search needs
-
-returns-2 : tie.Need-returns-2
-returns-2 c = search needs
-
 pub play-phrases-spec : {M : Type 1} → statement M
 play-phrases-spec =
     tie.close
     (tie.spec
-    points-of-requires
+    (λ c κs. search needs)
     returns
     letters-played-requires
     play-letters-requires
-    same-length
-    same-length-2
-    returns-2)
+    (λ c. search needs)
+    (λ c. search needs)
+    (λ c. search needs))

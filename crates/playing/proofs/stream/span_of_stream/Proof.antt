@@ -4,23 +4,11 @@ use borrow.Author.Needs.{needs}
 use Rattle.playing.proofs.stream.span_of_stream.Statement.{statement}
 use Rattle.playing.proofs.stream.span_of_stream.Tie as tie
 
-points-of-requires : tie.Need-points-of-requires
-points-of-requires c κs = search needs
-
-cast-span-between : tie.Need-cast-span-between
-cast-span-between c = search needs
-
-cast-span-between-2 : tie.Need-cast-span-between-2
-cast-span-between-2 c = search needs
-
 span-between-requires : tie.Need-span-between-requires
 span-between-requires c κs = (search needs, (search needs, (search streaming, (search streaming, search streaming))))
 
 returns : tie.Need-returns
 returns c = search streaming
-
-cast-span-from : tie.Need-cast-span-from
-cast-span-from c = search needs
 
 span-from-requires : tie.Need-span-from-requires
 span-from-requires c κs = (search needs, (search needs, search streaming))
@@ -32,11 +20,11 @@ pub span-of-stream-spec : {M : Type 1} → statement M
 span-of-stream-spec =
     tie.close
     (tie.spec
-    points-of-requires
-    cast-span-between
-    cast-span-between-2
+    (λ c κs. search needs)
+    (λ c. search needs)
+    (λ c. search needs)
     span-between-requires
     returns
-    cast-span-from
+    (λ c. search needs)
     span-from-requires
     returns-2)

@@ -4,18 +4,6 @@ use borrow.Author.Needs.{needs}
 use Rattle.reading.proofs.find.track_at.Statement.{statement}
 use Rattle.reading.proofs.find.track_at.Tie as tie
 
-voice-of-requires : tie.Need-voice-of-requires
-voice-of-requires c κs = search needs
-
-enum-told : tie.Need-enum-told
-enum-told c = search needs
-
-enum-told-2 : tie.Need-enum-told-2
-enum-told-2 c = search needs
-
-enum-known-voice : tie.Need-enum-known-voice
-enum-known-voice c = search needs
-
 returns : tie.Need-returns
 returns c = search (needs, top-tracks)
 
@@ -28,4 +16,4 @@ returns-3 c = search (needs, top-tracks)
 pub track-at-spec : {M : Type 1} → statement M
 track-at-spec =
     tie.close
-    (tie.spec voice-of-requires enum-told enum-told-2 enum-known-voice returns returns-2 returns-3)
+    (tie.spec (λ c κs. search needs) (λ c. search needs) (λ c. search needs) (λ c. search needs) returns returns-2 returns-3)

@@ -6,15 +6,9 @@ use borrow.Author.Needs.{needs}
 use Rattle.reading.proofs.frame.check_contents.Statement.{statement}
 use Rattle.reading.proofs.frame.check_contents.Tie as tie
 
-opens-with-contents-requires : tie.Need-opens-with-contents-requires
-opens-with-contents-requires c κs = search needs
-
 returns : tie.Need-returns
 unfolding contentsHold
 returns c = search (checks, answer-of-fine, flag-on, flag-off, is-on, is-off) depth 9 fits 20000
-
-has-chunk-requires : tie.Need-has-chunk-requires
-has-chunk-requires c κs = search needs
 
 returns-2 : tie.Need-returns-2
 unfolding contentsHold
@@ -27,4 +21,4 @@ returns-3 c = search (checks, answer-of-fine, flag-on, flag-off, is-on, is-off) 
 pub check-contents-spec : {M : Type 1} → statement M
 check-contents-spec =
     tie.close
-    (tie.spec opens-with-contents-requires returns has-chunk-requires returns-2 returns-3)
+    (tie.spec (λ c κs. search needs) returns (λ c κs. search needs) returns-2 returns-3)

@@ -11,35 +11,11 @@ use Rattle.reading.proofs.frame.check_frame.Tie as tie
 returns : tie.Need-returns
 returns c = search (frame-stages, checks, tests, first-true, second-true, neither-true, not-on, not-off, sizes, frame-contents) depth 12 fits 20000
 
-same-id-requires : tie.Need-same-id-requires
-same-id-requires c κs = search needs
-
 returns-2 : tie.Need-returns-2
 returns-2 c = search (frame-stages, checks, tests, first-true, second-true, neither-true, not-on, not-off, sizes, frame-contents) depth 12 fits 20000
 
-number-4-requires : tie.Need-number-4-requires
-number-4-requires c κs = search needs
-
-cast-if3 : tie.Need-cast-if3
-cast-if3 c = search needs
-
-add-if3 : tie.Need-add-if3
-add-if3 c = search needs
-
 returns-3 : tie.Need-returns-3
 returns-3 c = search (frame-stages, checks, tests, first-true, second-true, neither-true, not-on, not-off, sizes, frame-contents) depth 12 fits 20000
-
-sub-end : tie.Need-sub-end
-sub-end c = search needs
-
-check-list-requires : tie.Need-check-list-requires
-check-list-requires c κs = search needs
-
-enum-known-number : tie.Need-enum-known-number
-enum-known-number c = search needs
-
-enum-told : tie.Need-enum-told
-enum-told c = search needs
 
 check-contents-requires : tie.Need-check-contents-requires
 check-contents-requires c κs = (search needs, search frame-list-fine)
@@ -55,16 +31,16 @@ check-frame-spec =
     tie.close
     (tie.spec
     returns
-    same-id-requires
+    (λ c κs. search needs)
     returns-2
-    number-4-requires
-    cast-if3
-    add-if3
+    (λ c κs. search needs)
+    (λ c. search needs)
+    (λ c. search needs)
     returns-3
-    sub-end
-    check-list-requires
-    enum-known-number
-    enum-told
+    (λ c. search needs)
+    (λ c κs. search needs)
+    (λ c. search needs)
+    (λ c. search needs)
     check-contents-requires
     returns-4
     returns-5)

@@ -7,15 +7,6 @@ use Rattle.reading.proofs.frame.opens_with_contents.Tie as tie
 returns : tie.Need-returns
 returns c = search opening
 
-read-chunk-requires : tie.Need-read-chunk-requires
-read-chunk-requires c κs = search needs
-
-enum-known-size : tie.Need-enum-known-size
-enum-known-size c = search needs
-
-enum-told : tie.Need-enum-told
-enum-told c = search needs
-
 returns-2 : tie.Need-returns-2
 returns-2 c = search opening
 
@@ -33,9 +24,9 @@ opens-with-contents-spec =
     tie.close
     (tie.spec
     returns
-    read-chunk-requires
-    enum-known-size
-    enum-told
+    (λ c κs. search needs)
+    (λ c. search needs)
+    (λ c. search needs)
     returns-2
     same-id-requires
     returns-3

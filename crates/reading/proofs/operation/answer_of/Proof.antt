@@ -10,14 +10,8 @@ sub-end c = search (needs, file-rows)
 slice-aggregate-check-code : tie.Need-slice-aggregate-check-code
 slice-aggregate-check-code c = search (needs, file-rows)
 
-check-code-requires : tie.Need-check-code-requires
-check-code-requires c κs = search needs
-
 number-2-requires : tie.Need-number-2-requires
 number-2-requires c κs = search (needs, file-rows)
-
-cast-t9 : tie.Need-cast-t9
-cast-t9 c = search needs
 
 returns : tie.Need-returns
 returns c = search (needs, file-rows)
@@ -28,7 +22,7 @@ answer-of-spec =
     (tie.spec
     sub-end
     slice-aggregate-check-code
-    check-code-requires
+    (λ c κs. search needs)
     number-2-requires
-    cast-t9
+    (λ c. search needs)
     returns)

@@ -17,9 +17,6 @@ slice-aggregate-read-stated c = search (needs, front-length)
 read-stated-requires : tie.Need-read-stated-requires
 read-stated-requires c κs = search (needs, whole)
 
-same-length : tie.Need-same-length
-same-length c = search needs
-
 returns-3 : tie.Need-returns-3
 returns-3 c = (search (needs, whole), search (needs, whole))
 
@@ -31,5 +28,5 @@ read-spec =
     returns-2
     slice-aggregate-read-stated
     read-stated-requires
-    same-length
+    (λ c. search needs)
     returns-3)

@@ -4,15 +4,6 @@ use borrow.Author.Needs.{needs}
 use Rattle.reading.proofs.operation.read_stated.Statement.{statement}
 use Rattle.reading.proofs.operation.read_stated.Tie as tie
 
-check-file-requires : tie.Need-check-file-requires
-check-file-requires c κs = search needs
-
-enum-known-number : tie.Need-enum-known-number
-enum-known-number c = search needs
-
-enum-known-count : tie.Need-enum-known-count
-enum-known-count c = search needs
-
 returns : tie.Need-returns
 returns c = (search (needs, stated), search (needs, stated))
 
@@ -25,9 +16,6 @@ answer-of-requires c κs = (search needs, (search stated, search stated))
 returns-2 : tie.Need-returns-2
 returns-2 c = (search (needs, stated), search (needs, stated))
 
-same-length : tie.Need-same-length
-same-length c = search needs
-
 returns-3 : tie.Need-returns-3
 returns-3 c = (search (needs, stated), search (needs, stated))
 
@@ -35,12 +23,12 @@ pub read-stated-spec : {M : Type 1} → statement M
 read-stated-spec =
     tie.close
     (tie.spec
-    check-file-requires
-    enum-known-number
-    enum-known-count
+    (λ c κs. search needs)
+    (λ c. search needs)
+    (λ c. search needs)
     returns
     fill-rows-requires
     answer-of-requires
     returns-2
-    same-length
+    (λ c. search needs)
     returns-3)

@@ -19,9 +19,6 @@ sub-fill-tops c = search (needs, file-rows)
 fill-tops-requires : tie.Need-fill-tops-requires
 fill-tops-requires c κs = ((search file-rows, search needs, search needs), (search file-rows, (search file-rows, search (needs, file-rows))))
 
-same-length : tie.Need-same-length
-same-length c = search needs
-
 returns : tie.Need-returns
 returns c = search (needs, file-rows)
 
@@ -34,5 +31,5 @@ fill-rows-spec =
     put-row-requires
     sub-fill-tops
     fill-tops-requires
-    same-length
+    (λ c. search needs)
     returns)

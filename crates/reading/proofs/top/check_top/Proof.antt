@@ -4,21 +4,6 @@ use borrow.Author.Needs.{needs}
 use Rattle.reading.proofs.top.check_top.Statement.{statement}
 use Rattle.reading.proofs.top.check_top.Tie as tie
 
-voice-of-requires : tie.Need-voice-of-requires
-voice-of-requires c κs = search needs
-
-enum-known-number : tie.Need-enum-known-number
-enum-known-number c = search needs
-
-enum-told : tie.Need-enum-told
-enum-told c = search needs
-
-enum-known-voice : tie.Need-enum-known-voice
-enum-known-voice c = search needs
-
-check-opened-requires : tie.Need-check-opened-requires
-check-opened-requires c κs = search needs
-
 returns : tie.Need-returns
 returns c = (search tops, search needs)
 
@@ -32,11 +17,11 @@ pub check-top-spec : {M : Type 1} → statement M
 check-top-spec =
     tie.close
     (tie.spec
-    voice-of-requires
-    enum-known-number
-    enum-told
-    enum-known-voice
-    check-opened-requires
+    (λ c κs. search needs)
+    (λ c. search needs)
+    (λ c. search needs)
+    (λ c. search needs)
+    (λ c κs. search needs)
     returns
     returns-2
     returns-3)

@@ -10,9 +10,6 @@ returns : tie.Need-returns
 unfolding pcmVoice
 returns c = search (voices, tests, first-true, second-true, neither-true) depth 9 fits 20000
 
-shared-slice-read-if2 : tie.Need-shared-slice-read-if2
-shared-slice-read-if2 c = search needs
-
 returns-2 : tie.Need-returns-2
 unfolding pcmVoice
 returns-2 c = search (voices, tests, first-true, second-true, neither-true) depth 9 fits 20000
@@ -22,4 +19,4 @@ unfolding pcmVoice
 returns-3 c = search (voices, tests, first-true, second-true, neither-true) depth 9 fits 20000
 
 pub pcm-voice-spec : {M : Type 1} → statement M
-pcm-voice-spec = tie.close (tie.spec returns shared-slice-read-if2 returns-2 returns-3)
+pcm-voice-spec = tie.close (tie.spec returns (λ c. search needs) returns-2 returns-3)

@@ -10,9 +10,6 @@ returns : tie.Need-returns
 unfolding scoreVoice
 returns c = search (voices, tests, first-true, second-true, neither-true) depth 9 fits 20000
 
-shared-slice-read-format : tie.Need-shared-slice-read-format
-shared-slice-read-format c = search needs
-
 returns-2 : tie.Need-returns-2
 unfolding scoreVoice
 returns-2 c = search (voices, tests, first-true, second-true, neither-true) depth 9 fits 20000
@@ -27,4 +24,4 @@ returns-4 c = search (voices, tests, first-true, second-true, neither-true) dept
 
 pub score-voice-spec : {M : Type 1} → statement M
 score-voice-spec =
-    tie.close (tie.spec returns shared-slice-read-format returns-2 returns-3 returns-4)
+    tie.close (tie.spec returns (λ c. search needs) returns-2 returns-3 returns-4)

@@ -6,27 +6,9 @@ use borrow.Author.Needs.{needs}
 use Rattle.reading.proofs.top.voice_of.Statement.{statement}
 use Rattle.reading.proofs.top.voice_of.Tie as tie
 
-same-family-requires : tie.Need-same-family-requires
-same-family-requires c κs = search needs
-
-add-score-voice : tie.Need-add-score-voice
-add-score-voice c = search needs
-
-score-voice-requires : tie.Need-score-voice-requires
-score-voice-requires c κs = search needs
-
 returns : tie.Need-returns
 unfolding voiceOf
 returns c = search (voices, is-on, is-off) depth 9 fits 20000
-
-same-family-requires-2 : tie.Need-same-family-requires-2
-same-family-requires-2 c κs = search needs
-
-add-pcm-voice : tie.Need-add-pcm-voice
-add-pcm-voice c = search needs
-
-pcm-voice-requires : tie.Need-pcm-voice-requires
-pcm-voice-requires c κs = search needs
 
 returns-2 : tie.Need-returns-2
 unfolding voiceOf
@@ -40,12 +22,12 @@ pub voice-of-spec : {M : Type 1} → statement M
 voice-of-spec =
     tie.close
     (tie.spec
-    same-family-requires
-    add-score-voice
-    score-voice-requires
+    (λ c κs. search needs)
+    (λ c. search needs)
+    (λ c κs. search needs)
     returns
-    same-family-requires-2
-    add-pcm-voice
-    pcm-voice-requires
+    (λ c κs. search needs)
+    (λ c. search needs)
+    (λ c κs. search needs)
     returns-2
     returns-3)

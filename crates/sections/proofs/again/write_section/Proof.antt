@@ -14,26 +14,11 @@ copy-steps-requires c κs = (search again, (search needs, search (needs, again))
 copy-words-requires : tie.Need-copy-words-requires
 copy-words-requires c κs = (search again, search needs)
 
-same-length : tie.Need-same-length
-same-length c = search needs
-
-same-length-2 : tie.Need-same-length-2
-same-length-2 c = search needs
-
 returns : tie.Need-returns
 returns c = (search (needs, again), search (needs, again))
 
 write-span-requires : tie.Need-write-span-requires
 write-span-requires c κs = (search needs, (search needs, (search needs, (omega arith, (search needs, search needs)))))
-
-same-length-3 : tie.Need-same-length-3
-same-length-3 c = search needs
-
-same-length-4 : tie.Need-same-length-4
-same-length-4 c = search needs
-
-returns-2 : tie.Need-returns-2
-returns-2 c = search needs
 
 pub write-section-spec : {M : Type 1} → statement M
 write-section-spec =
@@ -42,10 +27,10 @@ write-section-spec =
     sub-copy-steps
     copy-steps-requires
     copy-words-requires
-    same-length
-    same-length-2
+    (λ c. search needs)
+    (λ c. search needs)
     returns
     write-span-requires
-    same-length-3
-    same-length-4
-    returns-2)
+    (λ c. search needs)
+    (λ c. search needs)
+    (λ c. search needs))

@@ -5,20 +5,11 @@ use borrow.Author.Needs.{needs}
 use Rattle.sections.proofs.rest.write_from.Statement.{statement}
 use Rattle.sections.proofs.rest.write_from.Tie as tie
 
-at-head-requires : tie.Need-at-head-requires
-at-head-requires c κs = search needs
-
 walk-to-requires : tie.Need-walk-to-requires
 walk-to-requires c κs = (search needs, (search needs, (search (needs, reaching), (search needs, search (needs, reaching)))))
 
 write-on-requires : tie.Need-write-on-requires
 write-on-requires c κs = (search needs, (search needs, (search needs, (search needs, search needs))))
-
-same-length : tie.Need-same-length
-same-length c = search needs
-
-same-length-2 : tie.Need-same-length-2
-same-length-2 c = search needs
 
 returns : tie.Need-returns
 returns c = (search (needs, onward-from), (search needs, (search needs, search needs)))
@@ -27,9 +18,9 @@ pub write-from-spec : {M : Type 1} → statement M
 write-from-spec =
     tie.close
     (tie.spec
-    at-head-requires
+    (λ c κs. search needs)
     walk-to-requires
     write-on-requires
-    same-length
-    same-length-2
+    (λ c. search needs)
+    (λ c. search needs)
     returns)

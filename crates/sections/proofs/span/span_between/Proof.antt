@@ -6,9 +6,6 @@ use borrow.Author.Needs.{needs}
 use Rattle.sections.proofs.span.span_between.Statement.{statement}
 use Rattle.sections.proofs.span.span_between.Tie as tie
 
-at-head-requires : tie.Need-at-head-requires
-at-head-requires c κs = search needs
-
 walk-to-requires : tie.Need-walk-to-requires
 walk-to-requires c κs = (search needs, (search needs, (search (needs, reaching), (search needs, search (needs, reaching)))))
 
@@ -29,4 +26,4 @@ returns c =
 pub span-between-spec : {M : Type 1} → statement M
 span-between-spec =
     tie.close
-    (tie.spec at-head-requires walk-to-requires walk-to-requires-2 span-to-requires returns)
+    (tie.spec (λ c κs. search needs) walk-to-requires walk-to-requires-2 span-to-requires returns)

@@ -5,9 +5,6 @@ use borrow.Author.Needs.{needs}
 use Rattle.sections.proofs.walk.messages_in.Statement.{statement}
 use Rattle.sections.proofs.walk.messages_in.Tie as tie
 
-is-message-requires : tie.Need-is-message-requires
-is-message-requires c κs = search needs
-
 returns : tie.Need-returns
 unfolding messagesIn
 returns c = search (needs, tests)
@@ -17,4 +14,4 @@ unfolding messagesIn
 returns-2 c = search (needs, tests)
 
 pub messages-in-spec : {M : Type 1} → statement M
-messages-in-spec = tie.close (tie.spec is-message-requires returns returns-2)
+messages-in-spec = tie.close (tie.spec (λ c κs. search needs) returns returns-2)

@@ -4,29 +4,14 @@ use borrow.Author.Needs.{needs}
 use Rattle.sections.proofs.word.word_of.Statement.{statement}
 use Rattle.sections.proofs.word.word_of.Tie as tie
 
-enum-told : tie.Need-enum-told
-enum-told c = search needs
-
-enum-known-event : tie.Need-enum-known-event
-enum-known-event c = search needs
-
 pack-requires : tie.Need-pack-requires
 pack-requires c κs = search (needs, bounds)
-
-enum-known-event-2 : tie.Need-enum-known-event-2
-enum-known-event-2 c = search needs
 
 pack-requires-2 : tie.Need-pack-requires-2
 pack-requires-2 c κs = search (needs, bounds)
 
-enum-known-event-3 : tie.Need-enum-known-event-3
-enum-known-event-3 c = search needs
-
 pack-requires-3 : tie.Need-pack-requires-3
 pack-requires-3 c κs = search (needs, bounds)
-
-enum-known-event-4 : tie.Need-enum-known-event-4
-enum-known-event-4 c = search needs
 
 pack-exclusive-requires : tie.Need-pack-exclusive-requires
 pack-exclusive-requires c κs = search (needs, bounds)
@@ -50,14 +35,14 @@ pub word-of-spec : {M : Type 1} → statement M
 word-of-spec =
     tie.close
     (tie.spec
-    enum-told
-    enum-known-event
+    (λ c. search needs)
+    (λ c. search needs)
     pack-requires
-    enum-known-event-2
+    (λ c. search needs)
     pack-requires-2
-    enum-known-event-3
+    (λ c. search needs)
     pack-requires-3
-    enum-known-event-4
+    (λ c. search needs)
     pack-exclusive-requires
     returns
     returns-2

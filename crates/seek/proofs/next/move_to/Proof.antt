@@ -5,21 +5,6 @@ use borrow.Author.Needs.{needs}
 use Rattle.seek.proofs.next.move_to.Statement.{statement}
 use Rattle.seek.proofs.next.move_to.Tie as tie
 
-enum-known-entry : tie.Need-enum-known-entry
-enum-known-entry c = search needs
-
-enum-known-entry-2 : tie.Need-enum-known-entry-2
-enum-known-entry-2 c = search needs
-
-enum-known-entry-3 : tie.Need-enum-known-entry-3
-enum-known-entry-3 c = search needs
-
-enum-known-entry-4 : tie.Need-enum-known-entry-4
-enum-known-entry-4 c = search needs
-
-enum-told : tie.Need-enum-told
-enum-told c = search needs
-
 returns : tie.Need-returns
 unfolding movedTo
 returns c = search moved-told
@@ -44,11 +29,11 @@ pub move-to-spec : {M : Type 1} → statement M
 move-to-spec =
     tie.close
     (tie.spec
-    enum-known-entry
-    enum-known-entry-2
-    enum-known-entry-3
-    enum-known-entry-4
-    enum-told
+    (λ c. search needs)
+    (λ c. search needs)
+    (λ c. search needs)
+    (λ c. search needs)
+    (λ c. search needs)
     returns
     returns-2
     returns-3

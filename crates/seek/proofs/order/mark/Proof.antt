@@ -5,27 +5,6 @@ use borrow.Author.Needs.{needs}
 use Rattle.seek.proofs.order.mark.Statement.{statement}
 use Rattle.seek.proofs.order.mark.Tie as tie
 
-enum-told : tie.Need-enum-told
-enum-told c = search needs
-
-enum-told-2 : tie.Need-enum-told-2
-enum-told-2 c = search needs
-
-enum-known-entry : tie.Need-enum-known-entry
-enum-known-entry c = search needs
-
-cast-flags : tie.Need-cast-flags
-cast-flags c = search needs
-
-element-write-flags : tie.Need-element-write-flags
-element-write-flags c = search needs
-
-enum-told-3 : tie.Need-enum-told-3
-enum-told-3 c = search needs
-
-enum-told-4 : tie.Need-enum-told-4
-enum-told-4 c = search needs
-
 returns : tie.Need-returns
 unfolding marked
 returns c = search marked-told
@@ -50,13 +29,13 @@ pub mark-spec : {M : Type 1} → statement M
 mark-spec =
     tie.close
     (tie.spec
-    enum-told
-    enum-told-2
-    enum-known-entry
-    cast-flags
-    element-write-flags
-    enum-told-3
-    enum-told-4
+    (λ c. search needs)
+    (λ c. search needs)
+    (λ c. search needs)
+    (λ c. search needs)
+    (λ c. search needs)
+    (λ c. search needs)
+    (λ c. search needs)
     returns
     returns-2
     returns-3

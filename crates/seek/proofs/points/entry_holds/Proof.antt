@@ -5,30 +5,6 @@ use borrow.Author.Needs.{needs}
 use Rattle.seek.proofs.points.entry_holds.Statement.{statement}
 use Rattle.seek.proofs.points.entry_holds.Tie as tie
 
-enum-known-entry : tie.Need-enum-known-entry
-enum-known-entry c = search needs
-
-is-point-requires : tie.Need-is-point-requires
-is-point-requires c κs = search needs
-
-enum-known-entry-2 : tie.Need-enum-known-entry-2
-enum-known-entry-2 c = search needs
-
-is-stop-requires : tie.Need-is-stop-requires
-is-stop-requires c κs = search needs
-
-enum-known-entry-3 : tie.Need-enum-known-entry-3
-enum-known-entry-3 c = search needs
-
-is-span-requires : tie.Need-is-span-requires
-is-span-requires c κs = search needs
-
-enum-told : tie.Need-enum-told
-enum-told c = search needs
-
-enum-told-2 : tie.Need-enum-told-2
-enum-told-2 c = search needs
-
 returns : tie.Need-returns
 unfolding entryHolds
 returns c = search holds-told
@@ -53,14 +29,14 @@ pub entry-holds-spec : {M : Type 1} → statement M
 entry-holds-spec =
     tie.close
     (tie.spec
-    enum-known-entry
-    is-point-requires
-    enum-known-entry-2
-    is-stop-requires
-    enum-known-entry-3
-    is-span-requires
-    enum-told
-    enum-told-2
+    (λ c. search needs)
+    (λ c κs. search needs)
+    (λ c. search needs)
+    (λ c κs. search needs)
+    (λ c. search needs)
+    (λ c κs. search needs)
+    (λ c. search needs)
+    (λ c. search needs)
     returns
     returns-2
     returns-3

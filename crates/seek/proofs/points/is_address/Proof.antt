@@ -4,15 +4,6 @@ use borrow.Author.Needs.{needs}
 use Rattle.seek.proofs.points.is_address.Statement.{statement}
 use Rattle.seek.proofs.points.is_address.Tie as tie
 
-find-address-requires : tie.Need-find-address-requires
-find-address-requires c κs = search needs
-
-enum-told : tie.Need-enum-told
-enum-told c = search needs
-
-enum-told-2 : tie.Need-enum-told-2
-enum-told-2 c = search needs
-
 returns : tie.Need-returns
 returns c = search numbered
 
@@ -21,4 +12,4 @@ returns-2 c = search numbered
 
 pub is-address-spec : {M : Type 1} → statement M
 is-address-spec =
-    tie.close (tie.spec find-address-requires enum-told enum-told-2 returns returns-2)
+    tie.close (tie.spec (λ c κs. search needs) (λ c. search needs) (λ c. search needs) returns returns-2)

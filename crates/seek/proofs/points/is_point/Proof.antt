@@ -7,11 +7,8 @@ use Rattle.seek.proofs.points.is_point.Tie as tie
 returns : tie.Need-returns
 returns c = search numbered
 
-is-address-requires : tie.Need-is-address-requires
-is-address-requires c κs = search needs
-
 returns-2 : tie.Need-returns-2
 returns-2 c = search numbered
 
 pub is-point-spec : {M : Type 1} → statement M
-is-point-spec = tie.close (tie.spec returns is-address-requires returns-2)
+is-point-spec = tie.close (tie.spec returns (λ c κs. search needs) returns-2)

@@ -7,9 +7,6 @@ use Rattle.seek.proofs.points.is_span.Tie as tie
 returns : tie.Need-returns
 returns c = search spans
 
-is-address-requires : tie.Need-is-address-requires
-is-address-requires c κs = search needs
-
 returns-2 : tie.Need-returns-2
 returns-2 c = search spans
 
@@ -20,4 +17,4 @@ returns-3 : tie.Need-returns-3
 returns-3 c = search spans
 
 pub is-span-spec : {M : Type 1} → statement M
-is-span-spec = tie.close (tie.spec returns is-address-requires returns-2 is-address-from-requires returns-3)
+is-span-spec = tie.close (tie.spec returns (λ c κs. search needs) returns-2 is-address-from-requires returns-3)

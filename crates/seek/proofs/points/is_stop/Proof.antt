@@ -5,9 +5,6 @@ use borrow.Author.Needs.{needs}
 use Rattle.seek.proofs.points.is_stop.Statement.{statement}
 use Rattle.seek.proofs.points.is_stop.Tie as tie
 
-is-point-requires : tie.Need-is-point-requires
-is-point-requires c κs = search needs
-
 returns : tie.Need-returns
 returns c = search (tests, junctions, numbered) depth 9 fits 20000
 
@@ -15,4 +12,4 @@ returns-2 : tie.Need-returns-2
 returns-2 c = search (tests, junctions, numbered) depth 9 fits 20000
 
 pub is-stop-spec : {M : Type 1} → statement M
-is-stop-spec = tie.close (tie.spec is-point-requires returns returns-2)
+is-stop-spec = tie.close (tie.spec (λ c κs. search needs) returns returns-2)

@@ -5,24 +5,6 @@ use borrow.Author.Needs.{needs}
 use Rattle.seek.proofs.said.note.Statement.{statement}
 use Rattle.seek.proofs.said.note.Tie as tie
 
-enum-known-entry : tie.Need-enum-known-entry
-enum-known-entry c = search needs
-
-enum-known-entry-2 : tie.Need-enum-known-entry-2
-enum-known-entry-2 c = search needs
-
-enum-told : tie.Need-enum-told
-enum-told c = search needs
-
-enum-known-entry-3 : tie.Need-enum-known-entry-3
-enum-known-entry-3 c = search needs
-
-add-said : tie.Need-add-said
-add-said c = search needs
-
-enum-told-2 : tie.Need-enum-told-2
-enum-told-2 c = search needs
-
 returns : tie.Need-returns
 unfolding noted
 returns c = search noted-told
@@ -47,12 +29,12 @@ pub note-spec : {M : Type 1} → statement M
 note-spec =
     tie.close
     (tie.spec
-    enum-known-entry
-    enum-known-entry-2
-    enum-told
-    enum-known-entry-3
-    add-said
-    enum-told-2
+    (λ c. search needs)
+    (λ c. search needs)
+    (λ c. search needs)
+    (λ c. search needs)
+    (λ c. search needs)
+    (λ c. search needs)
     returns
     returns-2
     returns-3

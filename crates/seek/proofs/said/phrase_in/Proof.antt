@@ -6,21 +6,6 @@ use borrow.Author.Needs.{needs}
 use Rattle.seek.proofs.said.phrase_in.Statement.{statement}
 use Rattle.seek.proofs.said.phrase_in.Tie as tie
 
-enum-told : tie.Need-enum-told
-enum-told c = search needs
-
-enum-told-2 : tie.Need-enum-told-2
-enum-told-2 c = search needs
-
-enum-known-entry : tie.Need-enum-known-entry
-enum-known-entry c = search needs
-
-enum-told-3 : tie.Need-enum-told-3
-enum-told-3 c = search needs
-
-enum-told-4 : tie.Need-enum-told-4
-enum-told-4 c = search needs
-
 returns : tie.Need-returns
 unfolding phraseNamed
 returns c = search (tests, named-told)
@@ -49,11 +34,11 @@ pub phrase-in-spec : {M : Type 1} → statement M
 phrase-in-spec =
     tie.close
     (tie.spec
-    enum-told
-    enum-told-2
-    enum-known-entry
-    enum-told-3
-    enum-told-4
+    (λ c. search needs)
+    (λ c. search needs)
+    (λ c. search needs)
+    (λ c. search needs)
+    (λ c. search needs)
     returns
     returns-2
     returns-3

@@ -5,12 +5,6 @@ use mathlib.Core.Path.{sym, ap}
 use Rattle.smaf_c.proofs.flatten.flatten_reply.Statement.{statement}
 use Rattle.smaf_c.proofs.flatten.flatten_reply.Tie as tie
 
-enum-known-answer : tie.Need-enum-known-answer
-enum-known-answer c = search needs
-
-enum-known-answer-2 : tie.Need-enum-known-answer-2
-enum-known-answer-2 c = search needs
-
 returns : tie.Need-returns
 unfolding flattenReply
 returns c = sym (ap flattenReply (c .before .answer .given .1))
@@ -20,4 +14,4 @@ unfolding flattenReply
 returns-2 c = sym (ap flattenReply (c .before .answer2 .given .1))
 
 pub flatten-reply-spec : {M : Type 1} → statement M
-flatten-reply-spec = tie.close (tie.spec enum-known-answer enum-known-answer-2 returns returns-2)
+flatten-reply-spec = tie.close (tie.spec (λ c. search needs) (λ c. search needs) returns returns-2)

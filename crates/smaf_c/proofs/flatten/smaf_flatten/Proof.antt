@@ -5,19 +5,10 @@ use Rattle.smaf_c.specs.Replies.{flattenReply}
 use Rattle.smaf_c.proofs.flatten.smaf_flatten.Statement.{statement}
 use Rattle.smaf_c.proofs.flatten.smaf_flatten.Tie as tie
 
-flatten-requires : tie.Need-flatten-requires
-flatten-requires c κs = search needs
-
-flatten-reply-requires : tie.Need-flatten-reply-requires
-flatten-reply-requires c κs = search needs
-
-same-length : tie.Need-same-length
-same-length c = search needs
-
 returns : tie.Need-returns
 returns c =
     let called = c .before .before .before in
     (c .flatten-reply .ensures ∙ ap flattenReply (called .flatten .ensures .0), called .flatten .ensures .1)
 
 pub smaf-flatten-spec : {M : Type 1} → statement M
-smaf-flatten-spec = tie.close (tie.spec flatten-requires flatten-reply-requires same-length returns)
+smaf-flatten-spec = tie.close (tie.spec (λ c κs. search needs) (λ c κs. search needs) (λ c. search needs) returns)

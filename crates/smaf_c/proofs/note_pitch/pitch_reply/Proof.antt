@@ -8,12 +8,6 @@ use Rattle.smaf_c.specs.Replies.{pitchReply}
 use Rattle.smaf_c.proofs.note_pitch.pitch_reply.Statement.{statement}
 use Rattle.smaf_c.proofs.note_pitch.pitch_reply.Tie as tie
 
-enum-known-answer : tie.Need-enum-known-answer
-enum-known-answer c = search needs
-
-enum-known-answer-2 : tie.Need-enum-known-answer-2
-enum-known-answer-2 c = search needs
-
 returns : tie.Need-returns
 unfolding pitchReply
 returns c =
@@ -25,4 +19,4 @@ unfolding pitchReply
 returns-2 c = sym (ap pitchReply (c .before .answer2 .given .1))
 
 pub pitch-reply-spec : {M : Type 1} → statement M
-pitch-reply-spec = tie.close (tie.spec enum-known-answer enum-known-answer-2 returns returns-2)
+pitch-reply-spec = tie.close (tie.spec (λ c. search needs) (λ c. search needs) returns returns-2)

@@ -5,18 +5,6 @@ use Rattle.smaf_c.specs.Replies.{playReply}
 use Rattle.smaf_c.proofs.play.smaf_play.Statement.{statement}
 use Rattle.smaf_c.proofs.play.smaf_play.Tie as tie
 
-play-requires : tie.Need-play-requires
-play-requires c κs = search needs
-
-play-reply-requires : tie.Need-play-reply-requires
-play-reply-requires c κs = search needs
-
-same-length : tie.Need-same-length
-same-length c = search needs
-
-same-length-2 : tie.Need-same-length-2
-same-length-2 c = search needs
-
 returns : tie.Need-returns
 returns c =
     let called = c .before .before .before .before .before in
@@ -24,4 +12,4 @@ returns c =
 
 pub smaf-play-spec : {M : Type 1} → statement M
 smaf-play-spec =
-    tie.close (tie.spec play-requires play-reply-requires same-length same-length-2 returns)
+    tie.close (tie.spec (λ c κs. search needs) (λ c κs. search needs) (λ c. search needs) (λ c. search needs) returns)

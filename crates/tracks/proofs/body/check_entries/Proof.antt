@@ -4,17 +4,8 @@ use borrow.Author.Needs.{needs}
 use Rattle.tracks.proofs.body.check_entries.Statement.{statement}
 use Rattle.tracks.proofs.body.check_entries.Tie as tie
 
-check-form-requires : tie.Need-check-form-requires
-check-form-requires c κs = search needs
-
-enum-told : tie.Need-enum-told
-enum-told c = search needs
-
 check-points-requires : tie.Need-check-points-requires
 check-points-requires c κs = (search needs, (search needs, (search needs, search forms)))
-
-enum-known-number : tie.Need-enum-known-number
-enum-known-number c = search needs
 
 returns : tie.Need-returns
 returns c = search forms
@@ -26,9 +17,9 @@ pub check-entries-spec : {M : Type 1} → statement M
 check-entries-spec =
     tie.close
     (tie.spec
-    check-form-requires
-    enum-told
+    (λ c κs. search needs)
+    (λ c. search needs)
     check-points-requires
-    enum-known-number
+    (λ c. search needs)
     returns
     returns-2)

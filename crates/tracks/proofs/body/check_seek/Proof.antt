@@ -5,9 +5,6 @@ use borrow.Author.Needs.{needs}
 use Rattle.tracks.proofs.body.check_seek.Statement.{statement}
 use Rattle.tracks.proofs.body.check_seek.Tie as tie
 
-enum-known-found : tie.Need-enum-known-found
-enum-known-found c = search needs
-
 add-moved-by : tie.Need-add-moved-by
 add-moved-by c = search (insides, seeks)
 
@@ -20,9 +17,6 @@ check-entries-requires c κs = (search needs, (search needs, search seeks))
 moved-by-requires : tie.Need-moved-by-requires
 moved-by-requires c κs = (search insides, search seeks)
 
-enum-told : tie.Need-enum-told
-enum-told c = search needs
-
 returns : tie.Need-returns
 returns c = search (insides, seeks)
 
@@ -33,11 +27,11 @@ pub check-seek-spec : {M : Type 1} → statement M
 check-seek-spec =
     tie.close
     (tie.spec
-    enum-known-found
+    (λ c. search needs)
     add-moved-by
     body-of-requires
     check-entries-requires
     moved-by-requires
-    enum-told
+    (λ c. search needs)
     returns
     returns-2)

@@ -4,12 +4,6 @@ use borrow.Author.Needs.{needs}
 use Rattle.tracks.proofs.body.check_sequence.Statement.{statement}
 use Rattle.tracks.proofs.body.check_sequence.Tie as tie
 
-add-moved-by : tie.Need-add-moved-by
-add-moved-by c = search needs
-
-body-of-requires : tie.Need-body-of-requires
-body-of-requires c κs = search needs
-
 check-items-requires : tie.Need-check-items-requires
 check-items-requires c κs = search sequences
 
@@ -22,4 +16,4 @@ returns c = search sequences
 pub check-sequence-spec : {M : Type 1} → statement M
 check-sequence-spec =
     tie.close
-    (tie.spec add-moved-by body-of-requires check-items-requires moved-by-requires returns)
+    (tie.spec (λ c. search needs) (λ c κs. search needs) check-items-requires moved-by-requires returns)

@@ -4,23 +4,14 @@ use borrow.Author.Needs.{needs}
 use Rattle.tracks.proofs.body.check_setup.Statement.{statement}
 use Rattle.tracks.proofs.body.check_setup.Tie as tie
 
-enum-known-setup : tie.Need-enum-known-setup
-enum-known-setup c = search needs
-
 add-moved-by : tie.Need-add-moved-by
 add-moved-by c = search (needs, insides, setups)
 
 body-of-requires : tie.Need-body-of-requires
 body-of-requires c κs = search (needs, insides, setups)
 
-read-setup-requires : tie.Need-read-setup-requires
-read-setup-requires c κs = search needs
-
 moved-by-requires : tie.Need-moved-by-requires
 moved-by-requires c κs = (search insides, search setups)
-
-enum-told : tie.Need-enum-told
-enum-told c = search needs
 
 returns : tie.Need-returns
 returns c = search (needs, insides, setups)
@@ -32,11 +23,11 @@ pub check-setup-spec : {M : Type 1} → statement M
 check-setup-spec =
     tie.close
     (tie.spec
-    enum-known-setup
+    (λ c. search needs)
     add-moved-by
     body-of-requires
-    read-setup-requires
+    (λ c κs. search needs)
     moved-by-requires
-    enum-told
+    (λ c. search needs)
     returns
     returns-2)

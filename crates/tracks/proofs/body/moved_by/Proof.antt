@@ -5,12 +5,6 @@ use borrow.Author.Needs.{needs}
 use Rattle.tracks.proofs.body.moved_by.Statement.{statement}
 use Rattle.tracks.proofs.body.moved_by.Tie as tie
 
-enum-told : tie.Need-enum-told
-enum-told c = search needs
-
-enum-known-check : tie.Need-enum-known-check
-enum-known-check c = search needs
-
 add-t6 : tie.Need-add-t6
 add-t6 c = search near-fits
 
@@ -21,4 +15,4 @@ returns-2 : tie.Need-returns-2
 returns-2 c = search (moved-passed, moved-refused)
 
 pub moved-by-spec : {M : Type 1} → statement M
-moved-by-spec = tie.close (tie.spec enum-told enum-known-check add-t6 returns returns-2)
+moved-by-spec = tie.close (tie.spec (λ c. search needs) (λ c. search needs) add-t6 returns returns-2)

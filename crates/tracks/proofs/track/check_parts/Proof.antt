@@ -5,27 +5,6 @@ use borrow.Author.Needs.{needs}
 use Rattle.tracks.proofs.track.check_parts.Statement.{statement}
 use Rattle.tracks.proofs.track.check_parts.Tie as tie
 
-add-start : tie.Need-add-start
-add-start c = search needs
-
-add-start-2 : tie.Need-add-start-2
-add-start-2 c = search needs
-
-add-end : tie.Need-add-end
-add-end c = search needs
-
-add-end-2 : tie.Need-add-end-2
-add-end-2 c = search needs
-
-check-list-requires : tie.Need-check-list-requires
-check-list-requires c κs = search needs
-
-enum-known-number : tie.Need-enum-known-number
-enum-known-number c = search needs
-
-enum-told : tie.Need-enum-told
-enum-told c = search needs
-
 check-after-parts-requires : tie.Need-check-after-parts-requires
 check-after-parts-requires c κs = (search needs, search parts-fine)
 
@@ -39,13 +18,13 @@ pub check-parts-spec : {M : Type 1} → statement M
 check-parts-spec =
     tie.close
     (tie.spec
-    add-start
-    add-start-2
-    add-end
-    add-end-2
-    check-list-requires
-    enum-known-number
-    enum-told
+    (λ c. search needs)
+    (λ c. search needs)
+    (λ c. search needs)
+    (λ c. search needs)
+    (λ c κs. search needs)
+    (λ c. search needs)
+    (λ c. search needs)
     check-after-parts-requires
     returns
     returns-2)

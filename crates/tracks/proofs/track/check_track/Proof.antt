@@ -4,15 +4,6 @@ use borrow.Author.Needs.{needs}
 use Rattle.tracks.proofs.track.check_track.Statement.{statement}
 use Rattle.tracks.proofs.track.check_track.Tie as tie
 
-check-fixed-requires : tie.Need-check-fixed-requires
-check-fixed-requires c κs = search needs
-
-enum-known-number : tie.Need-enum-known-number
-enum-known-number c = search needs
-
-enum-told : tie.Need-enum-told
-enum-told c = search needs
-
 check-parts-requires : tie.Need-check-parts-requires
 check-parts-requires c κs = search opened
 
@@ -26,9 +17,9 @@ pub check-track-spec : {M : Type 1} → statement M
 check-track-spec =
     tie.close
     (tie.spec
-    check-fixed-requires
-    enum-known-number
-    enum-told
+    (λ c κs. search needs)
+    (λ c. search needs)
+    (λ c. search needs)
     check-parts-requires
     returns
     returns-2)

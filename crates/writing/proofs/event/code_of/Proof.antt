@@ -5,11 +5,8 @@ use borrow.Author.Needs.{needs}
 use Rattle.writing.proofs.event.code_of.Statement.{statement}
 use Rattle.writing.proofs.event.code_of.Tie as tie
 
-array-read-result : tie.Need-array-read-result
-array-read-result c = search needs
-
 returns : tie.Need-returns
 returns c = (refl, code-low _ (c .pre))
 
 pub code-of-spec : {M : Type 1} → statement M
-code-of-spec = tie.close (tie.spec array-read-result returns)
+code-of-spec = tie.close (tie.spec (λ c. search needs) returns)

@@ -4,39 +4,6 @@ use borrow.Author.Needs.{needs}
 use Rattle.writing.proofs.event.event_size.Statement.{statement}
 use Rattle.writing.proofs.event.event_size.Tie as tie
 
-enum-told : tie.Need-enum-told
-enum-told c = search needs
-
-enum-known-event : tie.Need-enum-known-event
-enum-known-event c = search needs
-
-duration-size-requires : tie.Need-duration-size-requires
-duration-size-requires c κs = search needs
-
-add-result : tie.Need-add-result
-add-result c = search needs
-
-enum-known-event-2 : tie.Need-enum-known-event-2
-enum-known-event-2 c = search needs
-
-duration-size-requires-2 : tie.Need-duration-size-requires-2
-duration-size-requires-2 c κs = search needs
-
-add-result-2 : tie.Need-add-result-2
-add-result-2 c = search needs
-
-enum-known-event-3 : tie.Need-enum-known-event-3
-enum-known-event-3 c = search needs
-
-enum-known-event-4 : tie.Need-enum-known-event-4
-enum-known-event-4 c = search needs
-
-cast-result : tie.Need-cast-result
-cast-result c = search needs
-
-add-result-3 : tie.Need-add-result-3
-add-result-3 c = search needs
-
 returns : tie.Need-returns
 returns c = search (needs, sizes)
 
@@ -59,17 +26,17 @@ pub event-size-spec : {M : Type 1} → statement M
 event-size-spec =
     tie.close
     (tie.spec
-    enum-told
-    enum-known-event
-    duration-size-requires
-    add-result
-    enum-known-event-2
-    duration-size-requires-2
-    add-result-2
-    enum-known-event-3
-    enum-known-event-4
-    cast-result
-    add-result-3
+    (λ c. search needs)
+    (λ c. search needs)
+    (λ c κs. search needs)
+    (λ c. search needs)
+    (λ c. search needs)
+    (λ c κs. search needs)
+    (λ c. search needs)
+    (λ c. search needs)
+    (λ c. search needs)
+    (λ c. search needs)
+    (λ c. search needs)
     returns
     returns-2
     returns-3

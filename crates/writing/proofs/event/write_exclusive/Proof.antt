@@ -7,23 +7,11 @@ use Rattle.writing.proofs.event.write_exclusive.Tie as tie
 slice-write-out : tie.Need-slice-write-out
 slice-write-out c = search (needs, exclusives)
 
-add-out : tie.Need-add-out
-add-out c = search needs
-
 slice-write-out-2 : tie.Need-slice-write-out-2
 slice-write-out-2 c = search (needs, exclusives)
 
-add-out-2 : tie.Need-add-out-2
-add-out-2 c = search needs
-
 slice-write-out-3 : tie.Need-slice-write-out-3
 slice-write-out-3 c = search (needs, exclusives)
-
-add-copy-part : tie.Need-add-copy-part
-add-copy-part c = search needs
-
-add-copy-part-2 : tie.Need-add-copy-part-2
-add-copy-part-2 c = search needs
 
 copy-part-requires : tie.Need-copy-part-requires
 copy-part-requires c κs = search (needs, exclusives)
@@ -39,12 +27,12 @@ write-exclusive-spec =
     tie.close
     (tie.spec
     slice-write-out
-    add-out
+    (λ c. search needs)
     slice-write-out-2
-    add-out-2
+    (λ c. search needs)
     slice-write-out-3
-    add-copy-part
-    add-copy-part-2
+    (λ c. search needs)
+    (λ c. search needs)
     copy-part-requires
     same-length
     returns)

@@ -17,15 +17,9 @@ returns-3 : tie.Need-returns-3
 unfolding controlFits
 returns-3 c = search (tests, junctions) depth 12 fits 20000
 
-has-kind-requires : tie.Need-has-kind-requires
-has-kind-requires c κs = search needs
-
 returns-4 : tie.Need-returns-4
 unfolding controlFits
 returns-4 c = search (tests, junctions) depth 12 fits 20000
-
-is-value-requires : tie.Need-is-value-requires
-is-value-requires c κs = search needs
 
 returns-5 : tie.Need-returns-5
 unfolding controlFits
@@ -46,9 +40,9 @@ control-fits-spec =
     returns
     returns-2
     returns-3
-    has-kind-requires
+    (λ c κs. search needs)
     returns-4
-    is-value-requires
+    (λ c κs. search needs)
     returns-5
     returns-6
     returns-7)

@@ -10,28 +10,13 @@ returns : tie.Need-returns
 unfolding exclusiveFits
 returns c = search (tests, junctions, sources) depth 9 fits 20000
 
-add-whole : tie.Need-add-whole
-add-whole c = search needs
-
 returns-2 : tie.Need-returns-2
 unfolding exclusiveFits
 returns-2 c = search (tests, junctions, sources) depth 9 fits 20000
 
-sub-if3 : tie.Need-sub-if3
-sub-if3 c = search needs
-
 returns-3 : tie.Need-returns-3
 unfolding exclusiveFits
 returns-3 c = search (tests, junctions, sources) depth 9 fits 20000
-
-add-result : tie.Need-add-result
-add-result c = search needs
-
-add-result-2 : tie.Need-add-result-2
-add-result-2 c = search needs
-
-shared-slice-read-result : tie.Need-shared-slice-read-result
-shared-slice-read-result c = search needs
 
 returns-4 : tie.Need-returns-4
 unfolding exclusiveFits
@@ -42,11 +27,11 @@ exclusive-fits-spec =
     tie.close
     (tie.spec
     returns
-    add-whole
+    (λ c. search needs)
     returns-2
-    sub-if3
+    (λ c. search needs)
     returns-3
-    add-result
-    add-result-2
-    shared-slice-read-result
+    (λ c. search needs)
+    (λ c. search needs)
+    (λ c. search needs)
     returns-4)

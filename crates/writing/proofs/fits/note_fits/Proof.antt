@@ -5,26 +5,14 @@ use borrow.Author.Needs.{needs}
 use Rattle.writing.proofs.fits.note_fits.Statement.{statement}
 use Rattle.writing.proofs.fits.note_fits.Tie as tie
 
-enum-told : tie.Need-enum-told
-enum-told c = search needs
-
 returns : tie.Need-returns
 returns c = search (tests, junctions, voices) depth 9 fits 20000
 
 returns-2 : tie.Need-returns-2
 returns-2 c = search (tests, junctions, voices) depth 9 fits 20000
 
-is-note-requires : tie.Need-is-note-requires
-is-note-requires c κs = search needs
-
 returns-3 : tie.Need-returns-3
 returns-3 c = search (tests, junctions, voices) depth 9 fits 20000
-
-is-gate-requires : tie.Need-is-gate-requires
-is-gate-requires c κs = search needs
-
-enum-told-2 : tie.Need-enum-told-2
-enum-told-2 c = search needs
 
 returns-4 : tie.Need-returns-4
 returns-4 c = search (tests, junctions, voices) depth 9 fits 20000
@@ -36,12 +24,12 @@ pub note-fits-spec : {M : Type 1} → statement M
 note-fits-spec =
     tie.close
     (tie.spec
-    enum-told
+    (λ c. search needs)
     returns
     returns-2
-    is-note-requires
+    (λ c κs. search needs)
     returns-3
-    is-gate-requires
-    enum-told-2
+    (λ c κs. search needs)
+    (λ c. search needs)
     returns-4
     returns-5)

@@ -5,23 +5,11 @@ use borrow.Author.Needs.{needs}
 use Rattle.writing.proofs.fits.wave_fits.Statement.{statement}
 use Rattle.writing.proofs.fits.wave_fits.Tie as tie
 
-enum-told : tie.Need-enum-told
-enum-told c = search needs
-
-enum-told-2 : tie.Need-enum-told-2
-enum-told-2 c = search needs
-
 returns : tie.Need-returns
 returns c = search (tests, junctions, voices) depth 9 fits 20000
 
-is-wave-requires : tie.Need-is-wave-requires
-is-wave-requires c κs = search needs
-
 returns-2 : tie.Need-returns-2
 returns-2 c = search (tests, junctions, voices) depth 9 fits 20000
-
-is-gate-requires : tie.Need-is-gate-requires
-is-gate-requires c κs = search needs
 
 returns-3 : tie.Need-returns-3
 returns-3 c = search (tests, junctions, voices) depth 9 fits 20000
@@ -33,11 +21,11 @@ pub wave-fits-spec : {M : Type 1} → statement M
 wave-fits-spec =
     tie.close
     (tie.spec
-    enum-told
-    enum-told-2
+    (λ c. search needs)
+    (λ c. search needs)
     returns
-    is-wave-requires
+    (λ c κs. search needs)
     returns-2
-    is-gate-requires
+    (λ c κs. search needs)
     returns-3
     returns-4)

@@ -10,9 +10,6 @@ returns : tie.Need-returns
 unfolding putMemory
 returns c = (search answers, search (answers, memories))
 
-event-fits-requires : tie.Need-event-fits-requires
-event-fits-requires c κs = search needs
-
 returns-2 : tie.Need-returns-2
 unfolding putMemory
 returns-2 c = (search answers, search (answers, memories))
@@ -21,21 +18,12 @@ returns-3 : tie.Need-returns-3
 unfolding putMemory
 returns-3 c = (search answers, search (answers, memories))
 
-sub-if4 : tie.Need-sub-if4
-sub-if4 c = search needs
-
-item-size-requires : tie.Need-item-size-requires
-item-size-requires c κs = search needs
-
 returns-4 : tie.Need-returns-4
 unfolding putMemory
 returns-4 c = (search answers, search (answers, memories))
 
 write-item-requires : tie.Need-write-item-requires
 write-item-requires c κs = (search needs, (search flag-on, search has-room))
-
-same-length : tie.Need-same-length
-same-length c = search needs
 
 returns-5 : tie.Need-returns-5
 returns-5 c = (search answers, search all-written)
@@ -45,12 +33,12 @@ put-item-spec =
     tie.close
     (tie.spec
     returns
-    event-fits-requires
+    (λ c κs. search needs)
     returns-2
     returns-3
-    sub-if4
-    item-size-requires
+    (λ c. search needs)
+    (λ c κs. search needs)
     returns-4
     write-item-requires
-    same-length
+    (λ c. search needs)
     returns-5)

@@ -10,12 +10,9 @@ write-duration-requires c κs = search (needs, parts)
 write-event-requires : tie.Need-write-event-requires
 write-event-requires c κs = search (needs, parts)
 
-same-length : tie.Need-same-length
-same-length c = search needs
-
 returns : tie.Need-returns
 returns c = search (needs, parts)
 
 pub write-item-spec : {M : Type 1} → statement M
 write-item-spec =
-    tie.close (tie.spec write-duration-requires write-event-requires same-length returns)
+    tie.close (tie.spec write-duration-requires write-event-requires (λ c. search needs) returns)

@@ -10,17 +10,8 @@ returns c = (search given-sizes, search needs)
 returns-2 : tie.Need-returns-2
 returns-2 c = (search given-sizes, search needs)
 
-event-in-requires : tie.Need-event-in-requires
-event-in-requires c κs = search needs
-
-event-fits-requires : tie.Need-event-fits-requires
-event-fits-requires c κs = search needs
-
 returns-3 : tie.Need-returns-3
 returns-3 c = (search given-sizes, search needs)
-
-item-size-requires : tie.Need-item-size-requires
-item-size-requires c κs = search needs
 
 returns-4 : tie.Need-returns-4
 returns-4 c = (search given-sizes, search needs)
@@ -31,8 +22,8 @@ size-given-spec =
     (tie.spec
     returns
     returns-2
-    event-in-requires
-    event-fits-requires
+    (λ c κs. search needs)
+    (λ c κs. search needs)
     returns-3
-    item-size-requires
+    (λ c κs. search needs)
     returns-4)

@@ -4,17 +4,11 @@ use borrow.Author.Needs.{needs}
 use Rattle.writing.proofs.list.write_given.Statement.{statement}
 use Rattle.writing.proofs.list.write_given.Tie as tie
 
-event-in-requires : tie.Need-event-in-requires
-event-in-requires c κs = search needs
-
 write-item-requires : tie.Need-write-item-requires
 write-item-requires c κs = search (needs, given-parts)
-
-same-length : tie.Need-same-length
-same-length c = search needs
 
 returns : tie.Need-returns
 returns c = search (needs, given-parts)
 
 pub write-given-spec : {M : Type 1} → statement M
-write-given-spec = tie.close (tie.spec event-in-requires write-item-requires same-length returns)
+write-given-spec = tie.close (tie.spec (λ c κs. search needs) write-item-requires (λ c. search needs) returns)

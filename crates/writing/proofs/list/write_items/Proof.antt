@@ -4,23 +4,8 @@ use borrow.Author.Needs.{needs}
 use Rattle.writing.proofs.list.write_items.Statement.{statement}
 use Rattle.writing.proofs.list.write_items.Tie as tie
 
-check-items-requires : tie.Need-check-items-requires
-check-items-requires c κs = search needs
-
-enum-told : tie.Need-enum-told
-enum-told c = search needs
-
 write-all-requires : tie.Need-write-all-requires
 write-all-requires c κs = search (needs, answered)
-
-enum-told-2 : tie.Need-enum-told-2
-enum-told-2 c = search needs
-
-enum-known-index : tie.Need-enum-known-index
-enum-known-index c = search needs
-
-same-length : tie.Need-same-length
-same-length c = search needs
 
 returns : tie.Need-returns
 returns c = (search answered, search answered)
@@ -35,12 +20,12 @@ pub write-items-spec : {M : Type 1} → statement M
 write-items-spec =
     tie.close
     (tie.spec
-    check-items-requires
-    enum-told
+    (λ c κs. search needs)
+    (λ c. search needs)
     write-all-requires
-    enum-told-2
-    enum-known-index
-    same-length
+    (λ c. search needs)
+    (λ c. search needs)
+    (λ c. search needs)
     returns
     returns-2
     returns-3)
