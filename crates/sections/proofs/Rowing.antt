@@ -25,11 +25,10 @@ use Rattle.items.proofs.Addresses.{stands-ahead, reads-to-items}
 use Rattle.items.proofs.Standing.{body-stands}
 use Rattle.sections.specs.Spans.{Items, messagesAfter, since, itemsFrom, spanOf, counted, spanRows, stepsOf, wordsOf, Begun, Ended, Playable}
 use Rattle.sections.proofs.InWords.{ItemInWord, item-in-word}
+use Rattle.sections.specs.Taking.{AllBytes, takenAs, ItemAgrees}
+use Rattle.sections.specs.declared.Taken.{Taken}
+use Rattle.sections.proofs.Taking.{word-none, word-some}
 use Rattle.sections.proofs.Places.{Standing, first-stands, from-since, past-small}
-
--- one store into the table of words
-pub word-stored : (l : List ℕ) (row word r : ℕ) → word ≡ r → set l row word ≡ set l row r
-word-stored l row word r e = ap (set l row) e
 
 -- the rows of the next so many messages, after a time that is past
 abbrev pub next-rows : ℕ → ℕ → ℕ → ℕ → Items → List (At Event)
@@ -257,14 +256,14 @@ module _ (voice : Voice) (s : List ℕ) (span : Span) (before : ℕ) (l m : List
       unfolding itemMet
       read = opened (timed duration event) next (stands (Timed duration event next) e)
 
-      pub row-in-word : InWord event
+      row-in-word : InWord event
       row-in-word = subst ItemInWord (sym is ∙ e) (item-in-word s (r .bytes) (r .small) voice place) .1
 
-      pub row-not-before : span .start ≤ time + duration
+      row-not-before : span .start ≤ time + duration
       unfolding durationOf
       row-not-before = subst (NotBefore (span .start) time) (read .1) (r .ahead)
 
-      pub row-nears : length s - next < length s - place
+      row-nears : length s - next < length s - place
       unfolding itemMet
       row-nears = let a = stands-ahead voice s place _ next (stands (Timed duration event next) e) in omega arith
 
@@ -279,7 +278,7 @@ module _ (voice : Voice) (s : List ℕ) (span : Span) (before : ℕ) (l m : List
       unfolding durationOf lasting sum
       lasts-next = add-assoc time duration (lasting (read .0)) ∙ ap (λ (items : Items). time + lasting items) (sym (read .1))
 
-      pub row-silent : (b : Bool) → b ≡ isMessage event → b ≡ false → Rowing voice s span before l m at end out outs row next (time + duration)
+      row-silent : (b : Bool) → b ≡ isMessage event → b ≡ false → Rowing voice s span before l m at end out outs row next (time + duration)
       row-silent b q h =
           silent next (time + duration) (read .0) (read .2) short-next row-not-before lasts-next
           (ap (next-rows before (span .start) (end - row) time) (read .1)
@@ -297,13 +296,13 @@ module _ (voice : Voice) (s : List ℕ) (span : Span) (before : ℕ) (l m : List
         counts : suc row + length (next-rows before (span .start) (end - suc row) (time + duration) (read .0)) ≡ at + length (spanRows (itemsOf voice s) span before)
         counts = let one = ap length opens in omega (arith, r .count)
 
-        pub row-room-steps : row < length out
+        row-room-steps : row < length out
         row-room-steps = omega (arith, counts, r .room-steps)
 
-        pub row-room-words : row < length outs
+        row-room-words : row < length outs
         row-room-words = omega (arith, counts, r .room-words)
 
-        pub row-sounds : (m₁ m₂ : List ℕ) → m₁ ≡ set out row (before + (time + duration - span .start))
+        row-sounds : (m₁ m₂ : List ℕ) → m₁ ≡ set out row (before + (time + duration - span .start))
             → m₂ ≡ set outs row (wordOf event) → Rowing voice s span before l m at end m₁ m₂ (row + 1) next (time + duration)
         unfolding stepsOf wordsOf
         row-sounds m₁ m₂ p₁ p₂ =
@@ -332,11 +331,11 @@ module _ (voice : Voice) (s : List ℕ) (span : Span) (before : ℕ) (l m : List
       unfolding itemMet
       marked = opened endMark next (stands (EndMark next) e)
 
-      pub row-nears-mark : length s - next < length s - place
+      row-nears-mark : length s - next < length s - place
       unfolding itemMet
       row-nears-mark = let a = stands-ahead voice s place _ next (stands (EndMark next) e) in omega arith
 
-      pub row-marks : Rowing voice s span before l m at end out outs row next time
+      row-marks : Rowing voice s span before l m at end out outs row next time
       unfolding itemMet durationOf lasting sum
       row-marks =
           let a = stands-ahead voice s place _ next (stands (EndMark next) e) in
@@ -358,17 +357,77 @@ module _ (voice : Voice) (s : List ℕ) (span : Span) (before : ℕ) (l m : List
               let z : _≡_ {A = ℕ} 0 1 = cc in
               omega arith
 
-      pub steps-never : out ≡ sets l at (stepsOf (spanRows (itemsOf voice s) span before))
-      steps-never = absurd never
+  -- an item that is taken as plain numbers
+  module _ (taken : Taken) (here : place < length s) (agrees : ItemAgrees taken (itemAt voice s place)) where
+    by-cases : (X : Taken → Type 0)
+        → ((duration next : ℕ) (event : Event) → itemAt voice s place ≡ Timed duration event next → X (takenAs next duration (wordOf event)))
+        → ((next : ℕ) → itemAt voice s place ≡ EndMark next → X (takenAs next 0 0)) → X taken
+    unfolding ItemAgrees
+    by-cases X timed-so marked-so = go (itemAt voice s place) refl agrees
+      where
+        go : (j : ReadItem) → itemAt voice s place ≡ j → ItemAgrees taken j → X taken
+        go (Timed duration event next) e a = subst X (sym a) (timed-so duration next event e)
+        go (EndMark next) e a = subst X (sym a) (marked-so next e)
+        go (Refused number there) e a = absurd (never (itemAt voice s place) here refl number there e)
 
-      pub words-never : outs ≡ sets m at (wordsOf (spanRows (itemsOf voice s) span before))
-      words-never = absurd never
+    pub took-nears : length s - taken .next < length s - place
+    took-nears =
+        by-cases (λ taken. length s - taken .next < length s - place)
+        (λ duration next event e. row-nears (itemAt voice s place) here refl duration next event e)
+        (λ next e. row-nears-mark (itemAt voice s place) here refl next e)
 
-      pub ended-never : Ended (itemsOf voice s) span before at (record { row = row; time = time })
-      ended-never = absurd never
+    pub took-not-before : span .start ≤ time + taken .duration
+    unfolding durationOf
+    took-not-before =
+        by-cases (λ taken. span .start ≤ time + taken .duration)
+        (λ duration next event e. row-not-before (itemAt voice s place) here refl duration next event e)
+        (λ next e. subst (NotBefore (span .start) time) (marked (itemAt voice s place) here refl next e .1) (r .ahead))
 
-pub ruleset row-turns = (row-in-word, row-not-before, row-nears, row-silent, row-room-steps, row-room-words, row-sounds, row-nears-mark, row-marks)
+    pub took-silent : taken .word ≡ 0 → Rowing voice s span before l m at end out outs row (taken .next) (time + taken .duration)
+    took-silent =
+        by-cases (λ taken. taken .word ≡ 0 → Rowing voice s span before l m at end out outs row (taken .next) (time + taken .duration))
+        (λ duration next event e none.
+        let there = row-in-word (itemAt voice s place) here refl duration next event e in
+        row-silent (itemAt voice s place) here refl duration next event e (isMessage event) refl (word-none event there none))
+        (λ next e none.
+        subst (Rowing voice s span before l m at end out outs row next) (sym (add-zero time)) (row-marks (itemAt voice s place) here refl next e))
 
-pub ruleset row-ends = (steps-full, words-full, ended-full, steps-over, words-over, ended-over, steps-never, words-never, ended-never)
+    module _ (more : row ≡ end → ⊥) (some : taken .word ≡ 0 → ⊥) where
+      took-room : (row < length out) × (row < length outs)
+      took-room =
+          by-cases (λ taken. (taken .word ≡ 0 → ⊥) → (row < length out) × (row < length outs))
+          (λ duration next event e some.
+          let m = word-some event some in (
+            row-room-steps (itemAt voice s place) here refl duration next event e (isMessage event) more refl m,
+            row-room-words (itemAt voice s place) here refl duration next event e (isMessage event) more refl m,
+          ))
+          (λ next e some. absurd (some refl))
+          some
+
+      pub took-room-steps : row < length out
+      took-room-steps = took-room .0
+
+      pub took-room-words : row < length outs
+      took-room-words = took-room .1
+
+      pub took-sounds : (m₁ m₂ : List ℕ) → m₁ ≡ set out row (before + (time + taken .duration - span .start)) → m₂ ≡ set outs row (taken .word)
+          → Rowing voice s span before l m at end m₁ m₂ (row + 1) (taken .next) (time + taken .duration)
+      took-sounds m₁ m₂ =
+          by-cases (λ taken. (taken .word ≡ 0 → ⊥) → m₁ ≡ set out row (before + (time + taken .duration - span .start)) → m₂ ≡ set outs row (taken .word)
+          → Rowing voice s span before l m at end m₁ m₂ (row + 1) (taken .next) (time + taken .duration))
+          (λ duration next event e some p₁ p₂.
+          row-sounds (itemAt voice s place) here refl duration next event e (isMessage event) more refl (word-some event some) m₁ m₂ p₁ p₂)
+          (λ next e some p₁ p₂. absurd (some refl))
+          some
+
+  pub row-bytes : AllBytes s
+  row-bytes = r .bytes
+
+  pub row-small : length s ≤ 65536
+  row-small = r .small
+
+pub ruleset row-turns = (row-bytes, row-small, took-nears, took-not-before, took-silent, took-room-steps, took-room-words, took-sounds)
+
+pub ruleset row-ends = (steps-full, words-full, ended-full, steps-over, words-over, ended-over)
 
 pub ruleset row-begins = (playable-begins, rows-room)
