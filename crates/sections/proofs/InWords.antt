@@ -23,7 +23,7 @@ use Rattle.model.specs.declared.ReadItem.the-variants.{Timed, EndMark, Refused}
 use Rattle.model.proofs.Tests.{if-all}
 use Rattle.model.proofs.Codes.{kind-from, kind-to}
 
-abbrev DurationShort : ReadDuration → Type 0
+abbrev pub DurationShort : ReadDuration → Type 0
 DurationShort (duration.Is value next) = value ≤ 16511
 DurationShort duration.Refused = Unit
 
@@ -37,7 +37,7 @@ ItemInWord (EndMark next) = Unit
 ItemInWord (Refused number place) = Unit
 
 module _ (s : List ℕ) (bytes : (k : ℕ) → s ! k < 256) where
-  duration-short : (at : ℕ) → DurationShort (durationAt s at)
+  pub duration-short : (at : ℕ) → DurationShort (durationAt s at)
   unfolding durationAt
   duration-short at =
       let one = bytes at in
@@ -46,7 +46,7 @@ module _ (s : List ℕ) (bytes : (k : ℕ) → s ! k < 256) where
       (λ i. if-all DurationShort (length s ≤? at + 1) _ _ (λ j. tt)
       (λ j. if-all DurationShort (s ! (at + 1) <? 128) _ _ (λ k. omega (arith, ltb-true)) (λ k. tt))))
 
-  gate-short : (d : ReadDuration) → DurationShort d → DurationShort (notZero d)
+  pub gate-short : (d : ReadDuration) → DurationShort d → DurationShort (notZero d)
   unfolding notZero
   gate-short (duration.Is value next) h = if-all DurationShort (value ≡? 0) _ _ (λ i. tt) (λ i. h)
   gate-short duration.Refused h = tt

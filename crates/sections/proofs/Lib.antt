@@ -2,6 +2,7 @@
 pub mod Words
 pub mod InWords
 pub mod Places
+pub mod Taking
 pub mod Stretches
 pub mod Rowing
 pub mod Walking

@@ -9,7 +9,7 @@ use lib.ListN.{length, take}
 use lib.Seq.{sets, take-all, take-length}
 use native.Mathlib.Omega.{arith}
 use Rattle.model.specs.Words.{_<?_}
-use Rattle.model.specs.Item.{Item, lasting, bodyOf, isFine, itemsOf}
+use Rattle.model.specs.Item.{lasting, bodyOf, isFine, itemsOf}
 use Rattle.model.specs.Play.{At, messagesOf, Section, isWithin}
 use Rattle.model.specs.Points.{timeOf}
 use Rattle.model.specs.Order.{streamSection}

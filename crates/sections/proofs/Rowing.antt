@@ -1,7 +1,7 @@
 -- The rows of a span, stored one after the other: the invariant of `write_rows`'s loop, that what is still to be stored makes the whole,
 -- and what each turn and each way out makes of it.
 use Prim.Native.Nat.{ℕ, zero, suc, _+_, _-_, _*_, _<_, _≤_}
-use mathlib.Core.Bool.{Bool, true, false}
+use mathlib.Core.Bool.{true, false}
 use mathlib.Core.List.{List, [], _∷_, map}
 use mathlib.Core.Path.{_≡_, refl, sym, _∙_, ap, subst}
 use lib.ListN.{length, take, set, length-set, length-take, length-map}
@@ -13,7 +13,7 @@ use borrow.Author.Tests.{ltb-false}
 use Rattle.model.specs.Words.{if_then_else_, _<?_, sum, Placed, Step.met, Step.stuck}
 use Rattle.model.specs.Bytes.{_!_}
 use Rattle.model.specs.Item.{Item, Item.timed, Item.endMark, durationOf, lasting, itemAt, itemMet, itemStep, bodyOf, isFine, itemsOf}
-use Rattle.model.specs.Play.{At, Section, onsetsAfter, withMessage, messagesOf}
+use Rattle.model.specs.Play.{At, onsetsAfter, withMessage, messagesOf}
 use Rattle.model.specs.Word.{isMessage, wordOf, InWord}
 use Rattle.model.specs.declared.Voice.{Voice}
 use Rattle.model.specs.declared.Event.{Event}
@@ -25,11 +25,10 @@ use Rattle.items.proofs.Addresses.{stands-ahead, reads-to-items}
 use Rattle.items.proofs.Standing.{body-stands}
 use Rattle.sections.specs.Spans.{Items, messagesAfter, since, itemsFrom, spanOf, counted, spanRows, stepsOf, wordsOf, Begun, Ended, Playable}
 use Rattle.sections.proofs.InWords.{ItemInWord, item-in-word}
+use Rattle.sections.specs.Taking.{AllBytes, takenAs, ItemAgrees}
+use Rattle.sections.specs.declared.Taken.{Taken}
+use Rattle.sections.proofs.Taking.{word-none, word-some}
 use Rattle.sections.proofs.Places.{Standing, first-stands, from-since, past-small}
-
--- one store into the table of words
-pub word-stored : (l : List ℕ) (row word r : ℕ) → word ≡ r → set l row word ≡ set l row r
-word-stored l row word r e = ap (set l row) e
 
 -- the rows of the next so many messages, after a time that is past
 abbrev pub next-rows : ℕ → ℕ → ℕ → ℕ → Items → List (At Event)
@@ -231,10 +230,10 @@ module _ (voice : Voice) (s : List ℕ) (span : Span) (before : ℕ) (l m : List
       }
 
   -- what is read where something stands
-  module _ (i : ReadItem) (here : place < length s) (is : i ≡ itemAt voice s place) where
-    stands : (j : ReadItem) → i ≡ j → itemStep voice s place ≡ itemMet place j
+  module _ (here : place < length s) where
+    stands : (j : ReadItem) → itemAt voice s place ≡ j → itemStep voice s place ≡ itemMet place j
     unfolding itemStep
-    stands j e = ap (itemMet place) (sym is ∙ e)
+    stands j e = ap (itemMet place) e
 
     -- the first of the items that are left, and those after it
     abbrev Opened : Item Event → ℕ → Type 0
@@ -252,19 +251,19 @@ module _ (voice : Voice) (s : List ℕ) (span : Span) (before : ℕ) (l m : List
             let on : st .0 ≡ next = cc in
             (items, q ∙ ap (λ (x : Placed (Item Event)). x ∷ items) same, subst (λ (n : ℕ). Standing voice s n items) on (st .2))
 
-    module _ (duration next : ℕ) (event : Event) (e : i ≡ Timed duration event next) where
+    module _ (duration next : ℕ) (event : Event) (e : itemAt voice s place ≡ Timed duration event next) where
       read : Opened (timed duration event) next
       unfolding itemMet
       read = opened (timed duration event) next (stands (Timed duration event next) e)
 
-      pub row-in-word : InWord event
-      row-in-word = subst ItemInWord (sym is ∙ e) (item-in-word s (r .bytes) (r .small) voice place) .1
+      row-in-word : InWord event
+      row-in-word = subst ItemInWord e (item-in-word s (r .bytes) (r .small) voice place) .1
 
-      pub row-not-before : span .start ≤ time + duration
+      row-not-before : span .start ≤ time + duration
       unfolding durationOf
       row-not-before = subst (NotBefore (span .start) time) (read .1) (r .ahead)
 
-      pub row-nears : length s - next < length s - place
+      row-nears : length s - next < length s - place
       unfolding itemMet
       row-nears = let a = stands-ahead voice s place _ next (stands (Timed duration event next) e) in omega arith
 
@@ -272,38 +271,38 @@ module _ (voice : Voice) (s : List ℕ) (span : Span) (before : ℕ) (l m : List
       unfolding itemMet
       short-next =
           let a = stands-ahead voice s place _ next (stands (Timed duration event next) e) in
-          let d = subst ItemInWord (sym is ∙ e) (item-in-word s (r .bytes) (r .small) voice place) .0 in
+          let d = subst ItemInWord e (item-in-word s (r .bytes) (r .small) voice place) .0 in
           omega (arith, r .short)
 
       lasts-next : time + duration + lasting (read .0) ≡ time + lasting (r .rest)
       unfolding durationOf lasting sum
       lasts-next = add-assoc time duration (lasting (read .0)) ∙ ap (λ (items : Items). time + lasting items) (sym (read .1))
 
-      pub row-silent : (b : Bool) → b ≡ isMessage event → b ≡ false → Rowing voice s span before l m at end out outs row next (time + duration)
-      row-silent b q h =
+      row-silent : isMessage event ≡ false → Rowing voice s span before l m at end out outs row next (time + duration)
+      row-silent h =
           silent next (time + duration) (read .0) (read .2) short-next row-not-before lasts-next
           (ap (next-rows before (span .start) (end - row) time) (read .1)
-          ∙ nop-next before (span .start) (end - row) time place duration event (read .0) (sym q ∙ h))
+          ∙ nop-next before (span .start) (end - row) time place duration event (read .0) h)
 
-      module _ (b : Bool) (more : row ≡ end → ⊥) (q : b ≡ isMessage event) (h : b ≡ true) where
+      module _ (more : row ≡ end → ⊥) (h : isMessage event ≡ true) where
         opens : next-rows before (span .start) (end - row) time (r .rest)
             ≡ record { step = before + (time + duration - span .start); event = event } ∷ next-rows before (span .start) (end - suc row) (time + duration) (read .0)
         opens =
             let left : end - row ≡ suc (end - suc row) = omega (arith, r .few) in
             ap (λ (n : ℕ). next-rows before (span .start) n time (r .rest)) left
             ∙ ap (next-rows before (span .start) (suc (end - suc row)) time) (read .1)
-            ∙ message-next before (span .start) (end - suc row) time place duration event (read .0) (sym q ∙ h)
+            ∙ message-next before (span .start) (end - suc row) time place duration event (read .0) h
 
         counts : suc row + length (next-rows before (span .start) (end - suc row) (time + duration) (read .0)) ≡ at + length (spanRows (itemsOf voice s) span before)
         counts = let one = ap length opens in omega (arith, r .count)
 
-        pub row-room-steps : row < length out
+        row-room-steps : row < length out
         row-room-steps = omega (arith, counts, r .room-steps)
 
-        pub row-room-words : row < length outs
+        row-room-words : row < length outs
         row-room-words = omega (arith, counts, r .room-words)
 
-        pub row-sounds : (m₁ m₂ : List ℕ) → m₁ ≡ set out row (before + (time + duration - span .start))
+        row-sounds : (m₁ m₂ : List ℕ) → m₁ ≡ set out row (before + (time + duration - span .start))
             → m₂ ≡ set outs row (wordOf event) → Rowing voice s span before l m at end m₁ m₂ (row + 1) next (time + duration)
         unfolding stepsOf wordsOf
         row-sounds m₁ m₂ p₁ p₂ =
@@ -327,16 +326,16 @@ module _ (voice : Voice) (s : List ℕ) (span : Span) (before : ℕ) (l m : List
               words = rw (p₂, add-one row) (ap (λ (x : List (At Event)). sets outs row (wordsOf x)) (sym opens) ∙ r .words);
             }
 
-    module _ (next : ℕ) (e : i ≡ EndMark next) where
+    module _ (next : ℕ) (e : itemAt voice s place ≡ EndMark next) where
       marked : Opened endMark next
       unfolding itemMet
       marked = opened endMark next (stands (EndMark next) e)
 
-      pub row-nears-mark : length s - next < length s - place
+      row-nears-mark : length s - next < length s - place
       unfolding itemMet
       row-nears-mark = let a = stands-ahead voice s place _ next (stands (EndMark next) e) in omega arith
 
-      pub row-marks : Rowing voice s span before l m at end out outs row next time
+      row-marks : Rowing voice s span before l m at end out outs row next time
       unfolding itemMet durationOf lasting sum
       row-marks =
           let a = stands-ahead voice s place _ next (stands (EndMark next) e) in
@@ -346,7 +345,7 @@ module _ (voice : Voice) (s : List ℕ) (span : Span) (before : ℕ) (l m : List
           (ap (next-rows before (span .start) (end - row) time) (marked .1) ∙ mark-next before (span .start) (end - row) time place (marked .0))
 
     -- nothing that stands in a body that reads is refused
-    module _ (number there : ℕ) (e : i ≡ Refused number there) where
+    module _ (number there : ℕ) (e : itemAt voice s place ≡ Refused number there) where
       never : ⊥
       unfolding itemMet
       never = go (r .rest) (r .stands)
@@ -358,17 +357,77 @@ module _ (voice : Voice) (s : List ℕ) (span : Span) (before : ℕ) (l m : List
               let z : _≡_ {A = ℕ} 0 1 = cc in
               omega arith
 
-      pub steps-never : out ≡ sets l at (stepsOf (spanRows (itemsOf voice s) span before))
-      steps-never = absurd never
+  -- an item that is taken as plain numbers
+  module _ (taken : Taken) (here : place < length s) (agrees : ItemAgrees taken (itemAt voice s place)) where
+    by-cases : (X : Taken → Type 0)
+        → ((duration next : ℕ) (event : Event) → itemAt voice s place ≡ Timed duration event next → X (takenAs next duration (wordOf event)))
+        → ((next : ℕ) → itemAt voice s place ≡ EndMark next → X (takenAs next 0 0)) → X taken
+    unfolding ItemAgrees
+    by-cases X timed-so marked-so = go (itemAt voice s place) refl agrees
+      where
+        go : (j : ReadItem) → itemAt voice s place ≡ j → ItemAgrees taken j → X taken
+        go (Timed duration event next) e a = subst X (sym a) (timed-so duration next event e)
+        go (EndMark next) e a = subst X (sym a) (marked-so next e)
+        go (Refused number there) e a = absurd (never here number there e)
 
-      pub words-never : outs ≡ sets m at (wordsOf (spanRows (itemsOf voice s) span before))
-      words-never = absurd never
+    pub took-nears : length s - taken .next < length s - place
+    took-nears =
+        by-cases (λ taken. length s - taken .next < length s - place)
+        (λ duration next event e. row-nears here duration next event e)
+        (λ next e. row-nears-mark here next e)
 
-      pub ended-never : Ended (itemsOf voice s) span before at (record { row = row; time = time })
-      ended-never = absurd never
+    pub took-not-before : span .start ≤ time + taken .duration
+    unfolding durationOf
+    took-not-before =
+        by-cases (λ taken. span .start ≤ time + taken .duration)
+        (λ duration next event e. row-not-before here duration next event e)
+        (λ next e. subst (NotBefore (span .start) time) (marked here next e .1) (r .ahead))
 
-pub ruleset row-turns = (row-in-word, row-not-before, row-nears, row-silent, row-room-steps, row-room-words, row-sounds, row-nears-mark, row-marks)
+    pub took-silent : taken .word ≡ 0 → Rowing voice s span before l m at end out outs row (taken .next) (time + taken .duration)
+    took-silent =
+        by-cases (λ taken. taken .word ≡ 0 → Rowing voice s span before l m at end out outs row (taken .next) (time + taken .duration))
+        (λ duration next event e none.
+        let there = row-in-word here duration next event e in
+        row-silent here duration next event e (word-none event there none))
+        (λ next e none.
+        subst (Rowing voice s span before l m at end out outs row next) (sym (add-zero time)) (row-marks here next e))
 
-pub ruleset row-ends = (steps-full, words-full, ended-full, steps-over, words-over, ended-over, steps-never, words-never, ended-never)
+    module _ (more : row ≡ end → ⊥) (some : taken .word ≡ 0 → ⊥) where
+      took-room : (row < length out) × (row < length outs)
+      took-room =
+          by-cases (λ taken. (taken .word ≡ 0 → ⊥) → (row < length out) × (row < length outs))
+          (λ duration next event e some.
+          let m = word-some event some in (
+            row-room-steps here duration next event e more m,
+            row-room-words here duration next event e more m,
+          ))
+          (λ next e some. absurd (some refl))
+          some
+
+      pub took-room-steps : row < length out
+      took-room-steps = took-room .0
+
+      pub took-room-words : row < length outs
+      took-room-words = took-room .1
+
+      pub took-sounds : (m₁ m₂ : List ℕ) → m₁ ≡ set out row (before + (time + taken .duration - span .start)) → m₂ ≡ set outs row (taken .word)
+          → Rowing voice s span before l m at end m₁ m₂ (row + 1) (taken .next) (time + taken .duration)
+      took-sounds m₁ m₂ =
+          by-cases (λ taken. (taken .word ≡ 0 → ⊥) → m₁ ≡ set out row (before + (time + taken .duration - span .start)) → m₂ ≡ set outs row (taken .word)
+          → Rowing voice s span before l m at end m₁ m₂ (row + 1) (taken .next) (time + taken .duration))
+          (λ duration next event e some p₁ p₂.
+          row-sounds here duration next event e more (word-some event some) m₁ m₂ p₁ p₂)
+          (λ next e some p₁ p₂. absurd (some refl))
+          some
+
+  pub row-bytes : AllBytes s
+  row-bytes = r .bytes
+
+  pub row-small : length s ≤ 65536
+  row-small = r .small
+
+pub ruleset row-turns = (row-bytes, row-small, took-nears, took-not-before, took-silent, took-room-steps, took-room-words, took-sounds)
+
+pub ruleset row-ends = (steps-full, words-full, ended-full, steps-over, words-over, ended-over)
 
 pub ruleset row-begins = (playable-begins, rows-room)

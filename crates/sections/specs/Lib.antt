@@ -2,3 +2,4 @@
 pub mod Spans
 pub mod Reaching
 pub mod Again
+pub mod Taking

@@ -4,6 +4,7 @@ mod again;
 mod rest;
 mod rows;
 mod span;
+mod take;
 mod walk;
 mod word;
 
@@ -28,4 +29,11 @@ pub struct First {
 pub struct Written {
     pub row: usize,
     pub time: u64,
+}
+
+// An item as plain numbers: the place after it, its duration, and its word, 0 where it is no message.
+pub struct Taken {
+    pub next: usize,
+    pub duration: u32,
+    pub word: u32,
 }

@@ -5,26 +5,20 @@ ghost use Prim.Native.Nat.{_+_, _≤_, _<_};
 ghost use lib.ListN.{length, set};
 ghost use lib.Seq.{sets};
 ghost use Rattle.model.specs.Item.{bodyOf, isFine, itemsOf};
-ghost use Rattle.model.specs.Word.{wordOf, InWord};
 ghost use Rattle.sections.specs.Spans.{spanRows, stepsOf, wordsOf, Begun, Ended, Playable};
 use super::Written;
-use super::word::is_message;
-use super::word::word_of;
-use items::read_item;
-use model::Event;
-use model::ReadItem;
+use super::take::take_item;
 use model::Span;
 use model::Voice;
 
-fn write_row(step: u64, event: Event, steps: &mut [u64], words: &mut [u32], row: usize)
-    requires { ⌜ InWord event ⌝ }
+fn write_row(step: u64, word: u32, steps: &mut [u64], words: &mut [u32], row: usize)
     requires { ⌜ row < length (now steps) ⌝ }
     requires { ⌜ row < length (now words) ⌝ }
     ensures { λ _. ⌜ now (steps .exit) ≡ set (now (steps .entry)) row step ⌝ }
-    ensures { λ _. ⌜ now (words .exit) ≡ set (now (words .entry)) row (wordOf event) ⌝ }
+    ensures { λ _. ⌜ now (words .exit) ≡ set (now (words .entry)) row word ⌝ }
 {
     steps[row] = step;
-    words[row] = word_of(event);
+    words[row] = word;
 }
 
 // The rows of a span from an index on, where so much has been played before: of as many messages as it says, or of all where the body has
@@ -57,28 +51,12 @@ pub fn write_rows(
         if row == end {
             return Written { row, time };
         }
-        match read_item(voice, body, place) {
-            ReadItem::Timed {
-                duration,
-                event,
-                next,
-            } => {
-                place = next;
-                time += duration as u64;
-                if is_message(event) {
-                    write_row(before + (time - span.start), event, steps, words, row);
-                    row += 1;
-                }
-            }
-            ReadItem::EndMark { next } => {
-                place = next;
-            }
-            ReadItem::Refused {
-                number: _,
-                place: _,
-            } => {
-                return Written { row, time };
-            }
+        let item = take_item(voice, body, place);
+        place = item.next;
+        time += item.duration as u64;
+        if item.word != 0 {
+            write_row(before + (time - span.start), item.word, steps, words, row);
+            row += 1;
         }
     }
     Written { row, time }

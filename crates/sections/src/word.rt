@@ -29,7 +29,7 @@ pub fn is_message(event: Event) -> bool
 }
 
 // The word of a note, a wave or a control.
-fn pack(kind: u8, channel: u8, value: u8, gate: u32) -> u32
+pub fn pack(kind: u8, channel: u8, value: u8, gate: u32) -> u32
     requires { ⌜ kind < 14 ⌝ }
     requires { ⌜ channel < 4 ⌝ }
     requires { ⌜ gate < 32768 ⌝ }

@@ -31,20 +31,14 @@ same-length-2 c = search (needs, row-turns)
 returns : tie.Need-returns Inv-loop μ-loop
 returns c = (search (needs, row-ends), (search (needs, row-ends), search (needs, row-ends)))
 
-read-item-requires : tie.Need-read-item-requires Inv-loop μ-loop
-read-item-requires c κs = search (needs, row-turns)
-
-enum-known-duration : tie.Need-enum-known-duration Inv-loop μ-loop
-enum-known-duration c = search (needs, row-turns)
+take-item-requires : tie.Need-take-item-requires Inv-loop μ-loop
+take-item-requires c κs = (search row-turns, (search (needs, row-turns), search needs))
 
 cast-time : tie.Need-cast-time Inv-loop μ-loop
 cast-time c = search (needs, row-turns)
 
 add-time : tie.Need-add-time Inv-loop μ-loop
 add-time c = search (needs, row-turns)
-
-is-message-requires : tie.Need-is-message-requires Inv-loop μ-loop
-is-message-requires c κs = search (needs, row-turns)
 
 sub-write-row : tie.Need-sub-write-row Inv-loop μ-loop
 sub-write-row c = search (needs, row-turns)
@@ -53,7 +47,7 @@ add-write-row : tie.Need-add-write-row Inv-loop μ-loop
 add-write-row c = search (needs, row-turns)
 
 write-row-requires : tie.Need-write-row-requires Inv-loop μ-loop
-write-row-requires c κs = (search row-turns, (search row-turns, search row-turns))
+write-row-requires c κs = (search row-turns, search row-turns)
 
 add-row : tie.Need-add-row Inv-loop μ-loop
 add-row c = search (needs, row-turns)
@@ -70,18 +64,6 @@ loop-less-2 c = search (needs, row-turns)
 loop-again-2 : tie.Need-loop-again-2 Inv-loop μ-loop
 loop-again-2 c = search (needs, row-turns)
 
-enum-known-next : tie.Need-enum-known-next Inv-loop μ-loop
-enum-known-next c = search (needs, row-turns)
-
-loop-less-3 : tie.Need-loop-less-3 Inv-loop μ-loop
-loop-less-3 c = search (needs, row-turns)
-
-loop-again-3 : tie.Need-loop-again-3 Inv-loop μ-loop
-loop-again-3 c = search (needs, row-turns)
-
-enum-told : tie.Need-enum-told Inv-loop μ-loop
-enum-told c = search (needs, row-turns)
-
 same-length-3 : tie.Need-same-length-3 Inv-loop μ-loop
 same-length-3 c = search (needs, row-turns)
 
@@ -90,15 +72,6 @@ same-length-4 c = search (needs, row-turns)
 
 returns-2 : tie.Need-returns-2 Inv-loop μ-loop
 returns-2 c = (search (needs, row-ends), (search (needs, row-ends), search (needs, row-ends)))
-
-same-length-5 : tie.Need-same-length-5 Inv-loop μ-loop
-same-length-5 c = search (needs, row-turns)
-
-same-length-6 : tie.Need-same-length-6 Inv-loop μ-loop
-same-length-6 c = search (needs, row-turns)
-
-returns-3 : tie.Need-returns-3 Inv-loop μ-loop
-returns-3 c = (search (needs, row-ends), (search (needs, row-ends), search (needs, row-ends)))
 
 pub write-rows-spec : {M : Type 1} → statement M
 write-rows-spec =
@@ -111,11 +84,9 @@ write-rows-spec =
     same-length
     same-length-2
     returns
-    read-item-requires
-    enum-known-duration
+    take-item-requires
     cast-time
     add-time
-    is-message-requires
     sub-write-row
     add-write-row
     write-row-requires
@@ -124,13 +95,6 @@ write-rows-spec =
     loop-again
     loop-less-2
     loop-again-2
-    enum-known-next
-    loop-less-3
-    loop-again-3
-    enum-told
     same-length-3
     same-length-4
-    returns-2
-    same-length-5
-    same-length-6
-    returns-3)
+    returns-2)
