@@ -1,25 +1,22 @@
--- The search for an address: the invariants of the loops of `is_address_from` and `find_address`, and what each way out of them and each
--- turn makes of them.
-use Prim.Native.Nat.{ℕ, zero, suc, _+_, _-_, _*_, _<_, _≤_}
+-- The search for an address: the invariant of `is_address_from`'s loop, and what each way out of it and each turn makes of it.
+use Prim.Native.Nat.{ℕ, _+_, _-_, _<_, _≤_}
 use mathlib.Core.List.{List, [], _∷_}
 use mathlib.Core.Bool.{Bool, true, false, false≢true}
-use mathlib.Core.Path.{_≡_, refl, sym, _∙_, ap, ap₂, subst}
+use mathlib.Core.Path.{_≡_, refl, sym, _∙_, ap, subst}
 use lib.ListN.{length}
-use native.Mathlib.Nat.{add-zero, zero-add, add-assoc}
 use native.Mathlib.Decide.{decLt}
 use native.Mathlib.Omega.{arith}
-use borrow.Author.Tests.{eq-eqb, ne-eqb, eqb-true, eqb-false, lt-ltb, le-ltb}
-use Rattle.model.specs.Words.{if_then_else_, _or_, _<?_, _≡?_, any, keep, sum, Placed, Checked, Checked.fine, Step, Step.met, Step.stuck}
+use borrow.Author.Tests.{eq-eqb, ne-eqb, eqb-true, eqb-false, lt-ltb}
+use Rattle.model.specs.Words.{if_then_else_, _or_, _<?_, _≡?_, any, keep, sum, Placed, Checked.fine, Step.met}
 use Rattle.model.specs.Item.{Item, Item.timed, Item.endMark, durationOf, lasting, itemAt, itemMet, itemStep, bodyOf, isFine, itemsOf}
-use Rattle.model.specs.Points.{isAddress, timeOf, addressAnswer}
+use Rattle.model.specs.Points.{isAddress}
 use Rattle.model.specs.declared.Voice.{Voice}
 use Rattle.model.specs.declared.Event.{Event}
 use Rattle.model.specs.declared.ReadItem.{ReadItem}
 use Rattle.model.specs.declared.ReadItem.the-variants.{Timed, EndMark, Refused}
-use Rattle.model.specs.declared.Address.{Address}
-use Rattle.model.specs.declared.Address.the-variants.{At, Nowhere}
 use Rattle.model.proofs.Tests.{by-test}
 use Rattle.model.proofs.Walks.{GoesOn, Stand, fine-found}
+use Rattle.items.specs.Passing.{EndsAt}
 use Rattle.items.proofs.Standing.{body-stands}
 use Rattle.items.proofs.Ahead.{ItemAhead, item-ahead, item-goes}
 
@@ -41,6 +38,12 @@ unfolding itemMet
 met-far at end (Timed duration event n) item next a e = let same : n ≡ next = cc in omega arith
 met-far at end (EndMark n) item next a e = let same : n ≡ next = cc in omega arith
 met-far at end (Refused number place) item next a e = let z : _≡_ {A = ℕ} 0 1 = cc in absurd (omega arith)
+
+met-ends : (at : ℕ) (j : ReadItem) (item : Placed (Item Event)) (next place : ℕ) → itemMet at j ≡ met item next → EndsAt place j → next ≡ place
+unfolding itemMet EndsAt
+met-ends at (Timed duration event n) item next place e h = let same : n ≡ next = cc in omega arith
+met-ends at (EndMark n) item next place e h = let same : n ≡ next = cc in omega arith
+met-ends at (Refused number there) item next place e h = let z : _≡_ {A = ℕ} 0 1 = cc in absurd (omega arith)
 
 module _ (voice : Voice) (s : List ℕ) (at : ℕ) (item : Placed (Item Event)) (next : ℕ) (e : itemStep voice s at ≡ met item next) where
   pub placed-at : item .place ≡ at
@@ -68,42 +71,12 @@ pub record Reaching (voice : Voice) (s : List ℕ) (address at : ℕ) : Type 0 w
   pub within : at ≤ length s
   pub there : isThere rest (length s) address ≡ isAddress (itemsOf voice s) (length s) address
 
--- and what lies before its place, and its items, make up the address's time
-pub record Seeking (voice : Voice) (s : List ℕ) (address at time : ℕ) : Type 0 where
-  pub walk : Reaching voice s address at
-  pub small : time ≤ 4294967296 * at
-  pub times : time + timeIn (walk .rest) address ≡ timeOf (itemsOf voice s) address
-
 -- a body that reads reads to its items
 pub reads-to-items : (voice : Voice) (s : List ℕ) → isFine (bodyOf voice s) ≡ true → bodyOf voice s ≡ fine (itemsOf voice s)
 unfolding itemsOf
 reads-to-items voice s h = fine-found (bodyOf voice s) h
 
-pub seek-starts : (voice : Voice) (s : List ℕ) (address : ℕ) → isFine (bodyOf voice s) ≡ true → Seeking voice s address 0 0
-unfolding isAddress timeOf
-seek-starts voice s address h =
-    record {
-      walk =
-          record {
-            rest = itemsOf voice s;
-            stands = body-stands voice s (itemsOf voice s) (reads-to-items voice s h);
-            within = omega arith;
-            there = refl;
-          };
-      small = omega arith;
-      times = zero-add _;
-    }
-
 -- items from a place on have places from there on
-none-before : (voice : Voice) (s : List ℕ) (address at : ℕ) (items : Items) → Standing voice s at items → address ≤ at
-    → timeIn items address ≡ 0
-unfolding keep lasting sum if_then_else_
-none-before voice s address at [] st h = refl
-none-before voice s address at (item ∷ rest) st h =
-    let a = stands-ahead voice s at item (st .0) (st .1) in
-    let past : address ≤ item .place = omega (arith, placed-at voice s at item (st .0) (st .1)) in
-    simp le-ltb (none-before voice s address (st .0) rest (st .2) (omega arith))
-
 pub none-there : (voice : Voice) (s : List ℕ) (address at : ℕ) (items : Items) → Standing voice s at items → address < at → at ≤ length s
     → isThere items (length s) address ≡ false
 unfolding any _or_
@@ -117,6 +90,11 @@ pub one-there : (voice : Voice) (s : List ℕ) (at : ℕ) (items : Items) → St
 unfolding any _or_
 one-there voice s at [] st = let e : length s ≡ at = omega arith in simp eq-eqb
 one-there voice s at (item ∷ rest) st = let e : item .place ≡ at = placed-at voice s at item (st .0) (st .1) in simp eq-eqb
+
+-- as the head of a body that reads
+pub head-there : (voice : Voice) (s : List ℕ) → isFine (bodyOf voice s) ≡ true → isAddress (itemsOf voice s) (length s) 0 ≡ true
+unfolding isAddress
+head-there voice s h = one-there voice s 0 (itemsOf voice s) (body-stands voice s (itemsOf voice s) (reads-to-items voice s h))
 
 none-past : (voice : Voice) (s : List ℕ) (address at : ℕ) (items : Items) → Standing voice s at items → at < address → length s ≤ at
     → isThere items (length s) address ≡ false
@@ -157,71 +135,33 @@ module _ (voice : Voice) (s : List ℕ) (address at : ℕ) (r : Reaching voice s
   pub reach-runs-out : at < address → length s ≤ at → false ≡ isAddress (itemsOf voice s) (length s) address
   reach-runs-out before past = sym (reach-over before past) ∙ r .there
 
-  -- the item that stands at the place
-  first-item : at < length s → (item : Placed (Item Event)) × (rest : Items) × (r .rest ≡ item ∷ rest)
-  first-item here = go (r .rest) refl
-    where
-      go : (items : Items) → r .rest ≡ items → (item : Placed (Item Event)) × (rest : Items) × (r .rest ≡ item ∷ rest)
-      go [] e = let over : at ≡ length s = subst (Standing voice s at) e (r .stands) in absurd (omega arith)
-      go (item ∷ rest) e = (item, rest, e)
-
   -- one item further
-  reach-steps : (item : Placed (Item Event)) (next : ℕ) → itemStep voice s at ≡ met item next → at < address
-      → (more : Reaching voice s address next) × (r .rest ≡ item ∷ more .rest)
-  reach-steps item next is before =
-      let a = stands-ahead voice s at item next is in
-      let f = first-item (omega arith) in
-      let st : Standing voice s at (f .0 ∷ f .1) = subst (Standing voice s at) (f .2) (r .stands) in
-      let both : met (f .0) (st .0) ≡ met item next = sym (st .1) ∙ is in
-      let same : f .0 ≡ item = cc in
-      let on : st .0 ≡ next = cc in
-      let rests : r .rest ≡ item ∷ f .1 = f .2 ∙ ap (λ (i : Placed (Item Event)). i ∷ f .1) same in
-      let below : item .place < address = omega (arith, placed-at voice s at item next is) in (
-        record {
-          rest = f .1;
-          stands = subst (λ (n : ℕ). Standing voice s n (f .1)) on (st .2);
-          within = a .1;
-          there =
-              sym (passed-by item (f .1) address (length s) below)
-              ∙ ap (λ (items : Items). isThere items (length s) address) (sym rests)
-              ∙ r .there;
-        },
-        rests,
-      )
-
-  module _ (i : ReadItem) (before : at < address) (here : at < length s) (is : i ≡ itemAt voice s at) where
-    stands : (j : ReadItem) → i ≡ j → itemStep voice s at ≡ itemMet at j
+  module _ (next : ℕ) (before : at < address) (here : at < length s) (ends : EndsAt next (itemAt voice s at)) where
+    further : Reaching voice s address next × (length s - next < length s - at)
     unfolding itemStep
-    stands j e = ap (itemMet at) (sym is ∙ e)
+    further = go (r .rest) (r .stands) (r .there)
+      where
+        go : (items : Items) → Standing voice s at items → isThere items (length s) address ≡ isAddress (itemsOf voice s) (length s) address
+            → Reaching voice s address next × (length s - next < length s - at)
+        go [] st same = absurd (omega arith)
+        go (item ∷ rest) st same =
+            let on : st .0 ≡ next = met-ends at (itemAt voice s at) item (st .0) next (st .1) ends in
+            let a = stands-ahead voice s at item (st .0) (st .1) in
+            let below : item .place < address = omega (arith, placed-at voice s at item (st .0) (st .1)) in (
+              record {
+                rest = rest;
+                stands = subst (λ (n : ℕ). Standing voice s n rest) on (st .2);
+                within = omega arith;
+                there = sym (passed-by item rest address (length s) below) ∙ same;
+              },
+              omega arith,
+            )
 
-    pub reach-reads : (duration next : ℕ) (event : Event) → i ≡ Timed duration event next → Reaching voice s address next
-    unfolding itemMet
-    reach-reads duration next event e = reach-steps _ next (stands (Timed duration event next) e) before .0
+    pub reach-passes : Reaching voice s address next
+    reach-passes = further .0
 
-    pub reach-marks : (next : ℕ) → i ≡ EndMark next → Reaching voice s address next
-    unfolding itemMet
-    reach-marks next e = reach-steps _ next (stands (EndMark next) e) before .0
-
-    pub reach-nears : (duration next : ℕ) (event : Event) → i ≡ Timed duration event next → length s - next < length s - at
-    unfolding itemMet
-    reach-nears duration next event e = let a = stands-ahead voice s at _ next (stands (Timed duration event next) e) in omega arith
-
-    pub reach-nears-mark : (next : ℕ) → i ≡ EndMark next → length s - next < length s - at
-    unfolding itemMet
-    reach-nears-mark next e = let a = stands-ahead voice s at _ next (stands (EndMark next) e) in omega arith
-
-    -- nothing that stands in a body that reads is refused
-    not-refused : (number place : ℕ) → i ≡ Refused number place → ⊥
-    unfolding itemMet
-    not-refused number place e =
-        let f = first-item here in
-        let st : Standing voice s at (f .0 ∷ f .1) = subst (Standing voice s at) (f .2) (r .stands) in
-        let both : met (f .0) (st .0) ≡ stuck number place = sym (st .1) ∙ stands (Refused number place) e in
-        let z : _≡_ {A = ℕ} 0 1 = cc in
-        omega arith
-
-    pub reach-never : (number place : ℕ) → i ≡ Refused number place → false ≡ isAddress (itemsOf voice s) (length s) address
-    reach-never number place e = absurd (not-refused number place e)
+    pub reach-nears : length s - next < length s - at
+    reach-nears = further .1
 
 -- the walk may start at an address that is not past the one that is asked for
 
@@ -255,61 +195,4 @@ module _ (voice : Voice) (s : List ℕ) (from address : ℕ) (order : from ≤ a
   reach-starts h known =
       walks-to (itemsOf voice s) 0 (body-stands voice s (itemsOf voice s) (reads-to-items voice s h)) (omega arith) (omega arith) known refl
 
-pub ruleset reaching = (reach-starts, reach-ends, reach-runs-out, reach-reads, reach-marks, reach-nears, reach-nears-mark, reach-never)
-
--- AND ITS TIME
-
-module _ (voice : Voice) (s : List ℕ) (address at time : ℕ) (r : Seeking voice s address at time) where
-  -- an answer where the two halves are known
-  answered : (there : Bool) (t : ℕ) → isThere (r .walk .rest) (length s) address ≡ there → time + timeIn (r .walk .rest) address ≡ t
-      → (if there then At t else Nowhere) ≡ addressAnswer (itemsOf voice s) (length s) address
-  unfolding addressAnswer
-  answered there t p q = ap₂ (λ (b : Bool) (n : ℕ). if b then At n else Nowhere) (sym p ∙ r .walk .there) (sym q ∙ r .times)
-
-  pub seek-finds : address ≤ at → at ≡ address → At time ≡ addressAnswer (itemsOf voice s) (length s) address
-  unfolding if_then_else_
-  seek-finds h e =
-      answered true time (reach-there voice s address at (r .walk) e)
-      (ap (λ (n : ℕ). time + n) (none-before voice s address at (r .walk .rest) (r .walk .stands) h) ∙ add-zero time)
-
-  pub seek-passes : address ≤ at → (at ≡ address → ⊥) → Nowhere ≡ addressAnswer (itemsOf voice s) (length s) address
-  unfolding if_then_else_
-  seek-passes h e = answered false _ (reach-past voice s address at (r .walk) h e) refl
-
-  pub seek-runs-out : at < address → length s ≤ at → Nowhere ≡ addressAnswer (itemsOf voice s) (length s) address
-  unfolding if_then_else_
-  seek-runs-out before past = answered false _ (reach-over voice s address at (r .walk) before past) refl
-
-  -- one item further
-  stepped : (what : Item Event) (next : ℕ) → itemStep voice s at ≡ met (record { place = at; what = what }) next → at < address → durationOf what < 4294967296
-      → Seeking voice s address next (time + durationOf what)
-  stepped what next is before small =
-      let item : Placed (Item Event) = record { place = at; what = what } in
-      let a = stands-ahead voice s at item next is in
-      let n = reach-steps voice s address at (r .walk) item next is before in
-      record {
-        walk = n .0;
-        small = omega (arith, r .small);
-        times =
-            add-assoc time (durationOf what) (timeIn (n .0 .rest) address)
-            ∙ ap (λ (k : ℕ). time + k) (sym (timed-by item (n .0 .rest) address before) ∙ ap (λ (items : Items). timeIn items address) (sym (n .1)))
-            ∙ r .times;
-      }
-
-  module _ (i : ReadItem) (before : at < address) (here : at < length s) (is : i ≡ itemAt voice s at) where
-    pub seek-reads : (duration next : ℕ) (event : Event) → i ≡ Timed duration event next → duration < 4294967296
-        → Seeking voice s address next (time + duration)
-    unfolding durationOf itemMet
-    seek-reads duration next event e small =
-        stepped (timed duration event) next (stands voice s address at (r .walk) i before here is (Timed duration event next) e) before small
-
-    pub seek-marks : (next : ℕ) → i ≡ EndMark next → Seeking voice s address next time
-    unfolding durationOf itemMet
-    seek-marks next e =
-        subst (Seeking voice s address next) (add-zero time)
-        (stepped endMark next (stands voice s address at (r .walk) i before here is (EndMark next) e) before (omega arith))
-
-    pub seek-never : (number place : ℕ) → i ≡ Refused number place → Nowhere ≡ addressAnswer (itemsOf voice s) (length s) address
-    seek-never number place e = absurd (not-refused voice s address at (r .walk) i before here is number place e)
-
-pub ruleset seeking = (seek-starts, seek-finds, seek-passes, seek-runs-out, seek-reads, seek-marks, reach-nears, reach-nears-mark, seek-never)
+pub ruleset reaching = (reach-starts, reach-ends, reach-runs-out, reach-passes, reach-nears)

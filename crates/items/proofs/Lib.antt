@@ -4,5 +4,6 @@ pub mod Ahead
 pub mod Reading
 pub mod Setup
 pub mod Standing
+pub mod Passing
 pub mod Addresses
 pub mod Within

@@ -1,13 +1,10 @@
-// Whole bodies: one walk of a sequence body, the time of an address in it, and a setup body.
+// Whole bodies: one walk of a sequence body, and a setup body.
 ghost use mathlib.Core.Path.{_≡_};
 ghost use Prim.Native.Nat.{_≤_};
 ghost use lib.ListN.{length};
-ghost use mathlib.Core.Bool.{true};
-ghost use Rattle.model.specs.Item.{bodyOf, bodyAnswer, isFine, itemsOf, setupMessageAt, setupOf, checkAnswer};
-ghost use Rattle.model.specs.Points.{addressAnswer};
+ghost use Rattle.model.specs.Item.{bodyOf, bodyAnswer, setupMessageAt, setupOf, checkAnswer};
 use super::event::read_exclusive;
 use super::item::read_item;
-use model::Address;
 use model::Check;
 use model::ReadBody;
 use model::ReadEvent;
@@ -59,44 +56,6 @@ pub fn read_body(voice: Voice, s: &[u8]) -> ReadBody
         count,
         duration: lasts,
     }
-}
-
-// Whether a number is an address of a body that reads, and its time.
-pub fn find_address(voice: Voice, s: &[u8], address: usize) -> Address
-    requires { ⌜ length (now s) ≤ 65536 ⌝ }
-    requires { ⌜ isFine (bodyOf voice (now s)) ≡ true ⌝ }
-    ensures { λ r. ⌜ r ≡ addressAnswer (itemsOf voice (now (s .entry))) (length (now (s .entry))) address ⌝ }
-{
-    let mut at: usize = 0;
-    let mut time: u64 = 0;
-    while at < address {
-        if s.len() <= at {
-            return Address::Nowhere;
-        }
-        match read_item(voice, s, at) {
-            ReadItem::Timed {
-                duration,
-                event: _,
-                next,
-            } => {
-                time += duration as u64;
-                at = next;
-            }
-            ReadItem::EndMark { next } => {
-                at = next;
-            }
-            ReadItem::Refused {
-                number: _,
-                place: _,
-            } => {
-                return Address::Nowhere;
-            }
-        }
-    }
-    if at == address {
-        return Address::At { time };
-    }
-    Address::Nowhere
 }
 
 // A message of a setup body at a place.

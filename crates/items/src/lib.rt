@@ -4,10 +4,10 @@ mod body;
 mod duration;
 mod event;
 mod item;
+mod pass;
 mod reach;
 mod standard;
 
-pub use body::find_address;
 pub use body::read_body;
 pub use body::read_setup;
 pub use duration::read_duration;

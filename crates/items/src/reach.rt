@@ -6,8 +6,7 @@ ghost use Prim.Native.Nat.{_≤_};
 ghost use lib.ListN.{length};
 ghost use Rattle.model.specs.Item.{bodyOf, isFine, itemsOf};
 ghost use Rattle.model.specs.Points.{isAddress};
-use super::item::read_item;
-use model::ReadItem;
+use super::pass::pass_item;
 use model::Voice;
 
 // Whether a number is an address of a body that reads, which is not before another one.
@@ -23,24 +22,7 @@ pub fn is_address_from(voice: Voice, s: &[u8], from: usize, address: usize) -> b
         if s.len() <= at {
             return false;
         }
-        match read_item(voice, s, at) {
-            ReadItem::Timed {
-                duration: _,
-                event: _,
-                next,
-            } => {
-                at = next;
-            }
-            ReadItem::EndMark { next } => {
-                at = next;
-            }
-            ReadItem::Refused {
-                number: _,
-                place: _,
-            } => {
-                return false;
-            }
-        }
+        at = pass_item(voice, s, at);
     }
     at == address
 }

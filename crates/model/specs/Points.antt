@@ -6,8 +6,6 @@ use mathlib.Core.Option.{Option, none, some}
 use lib.ListN.{length}
 use Rattle.model.specs.Words.{if_then_else_, _and_, _or_, _<?_, _≡?_, any, keep, isSome, _otherwise_, Placed, Checked, Checked.fine, Checked.refused, passed, allPass}
 use Rattle.model.specs.Item.{Item, lasting}
-use Rattle.model.specs.declared.Address.{Address}
-use Rattle.model.specs.declared.Address.the-variants.{At, Nowhere}
 use Rattle.model.specs.Seek.{Entry, Entry.start, Entry.stop, Entry.phrase, Entry.order, startPoint, phraseOf, orderList}
 
 -- An address is the first byte of an item or end mark, or the body's length.
@@ -17,9 +15,6 @@ isAddress items size address = any (λ item. item .place ≡? address) items or 
 -- The time of an address is the sum of the durations of all items that start before it.
 unfoldable pub timeOf : {E : Type 0} → List (Placed (Item E)) → ℕ → ℕ
 timeOf items address = lasting (keep (λ item. item .place <? address) items)
-
-unfoldable pub addressAnswer : {E : Type 0} → List (Placed (Item E)) → ℕ → ℕ → Address
-addressAnswer items size address = if isAddress items size address then At (timeOf items address) else Nowhere
 
 -- A span: its start is at most its stop, and both are addresses.
 unfoldable pub isSpan : (ℕ → Bool) → ℕ → ℕ → Bool

@@ -8,7 +8,7 @@ use lib.ListN.{length}
 use native.Mathlib.Omega.{arith}
 use borrow.Author.Tests.{ltb-false, eq-eqb, ne-eqb, not-true}
 use Rattle.model.specs.Words.{_and_, _<?_, isSome, _otherwise_, firstSaid, Placed, passed, if_then_else_}
-use Rattle.model.specs.Item.{Item, isFine, found, bodyOf, itemsOf}
+use Rattle.model.specs.Item.{Item, isFine, found, itemsOf}
 use Rattle.model.specs.Seek.{Entry, Entry.start, Entry.stop, Entry.phrase, Entry.order, seekOf, startIn, stopIn, startPoint, stopPoint, orderList, orderPlace, pointsSaid}
 use Rattle.model.specs.Points.{isAddress, pointHolds, pointsHold}
 use Rattle.model.specs.Order.{streamSection}
@@ -18,8 +18,7 @@ use Rattle.model.specs.declared.Event.{Event}
 use Rattle.model.specs.declared.Points.{Points}
 use Rattle.model.specs.declared.Span.{Span}
 use Rattle.model.proofs.Tests.{and-left, and-right}
-use Rattle.items.proofs.Addresses.{one-there, reads-to-items}
-use Rattle.items.proofs.Standing.{body-stands}
+use Rattle.items.proofs.Addresses.{head-there}
 use Rattle.sections.specs.Spans.{spanOf, spanBetween, spanFrom}
 use Rattle.playing.proofs.Said.{said-by, kept}
 use Rattle.playing.specs.Performing.{entriesSaid, Formed, Ready}
@@ -90,11 +89,6 @@ unfolding isSome
 none-said none h = refl
 none-said (some value) h = absurd (false≢true (sym h))
 
--- the head of a body is an address
-head-address : (voice : Voice) (body : List ℕ) → isFine (bodyOf voice body) ≡ true → isAddress (itemsOf voice body) (length body) 0 ≡ true
-unfolding isAddress
-head-address voice body reads = one-there voice body 0 (itemsOf voice body) (body-stands voice body (itemsOf voice body) (reads-to-items voice body reads))
-
 module _ (voice : Voice) (body seek : List ℕ) (ready : Ready voice false body seek) (points : Points) (said : points ≡ pointsSaid (entriesSaid false seek)) where
   abbrev items : List (Placed (Item Event))
   items = itemsOf voice body
@@ -113,7 +107,7 @@ module _ (voice : Voice) (body seek : List ℕ) (ready : Ready voice false body 
   pub stream-from : isAddress (itemsOf voice body) (length body) (points .start) ≡ true
   stream-from =
       rw started
-      (said-or (λ (value : ℕ). isAddress items (length body) value ≡ true) (startPoint entries) (start-holds _ _ entries holds) (head-address voice body (ready .reads)))
+      (said-or (λ (value : ℕ). isAddress items (length body) value ≡ true) (startPoint entries) (start-holds _ _ entries holds) (head-there voice body (ready .reads)))
 
   module _ (stops : points .stops ≡ true) where
     stopped : (value : ℕ) × (stopPoint entries ≡ some value)

@@ -5,12 +5,10 @@ use mathlib.Core.List.{List}
 use mathlib.Core.Path.{_≡_, refl, sym, _∙_, ap, subst}
 use lib.ListN.{length}
 use native.Mathlib.Omega.{arith}
-use borrow.Author.Tests.{lt-leb, lt-ltb, ne-eqb, eqb-true}
-use Rattle.model.specs.Words.{if_then_else_, _and_, _≤?_, _≡?_}
 use Rattle.model.specs.Bytes.{_!_}
 use Rattle.model.specs.Duration.{durationAt, gateAt}
-use Rattle.model.specs.Event.{isSound, sound, gated, soundAt, eventAt}
-use Rattle.model.specs.Item.{isEndMark, withEvent, withDuration, itemAt}
+use Rattle.model.specs.Event.{isSound, sound, gated, soundAt}
+use Rattle.model.specs.Item.{withEvent, itemAt}
 use Rattle.model.specs.Word.{isMessage, packed, wordOf, InWord}
 use Rattle.model.specs.declared.Voice.{Voice}
 use Rattle.model.specs.declared.Voice.the-variants.{Score, Pcm}
@@ -22,7 +20,8 @@ use Rattle.model.specs.declared.ReadEvent.{ReadEvent}
 use Rattle.model.specs.declared.ReadEvent.the-variants as event
 use Rattle.model.specs.declared.ReadItem.{ReadItem}
 use Rattle.model.specs.declared.ReadItem.the-variants.{Timed, EndMark, Refused}
-use Rattle.model.proofs.Tests.{by-test, if-all, and-left, and-right}
+use Rattle.model.proofs.Tests.{if-all}
+use Rattle.items.proofs.Passing.{sounds-here}
 use Rattle.sections.specs.Taking.{AllBytes, takenAs, EventAgrees, ItemAgrees}
 use Rattle.sections.specs.declared.Taken.{Taken}
 use Rattle.sections.proofs.InWords.{DurationShort, duration-short, gate-short, ItemInWord, item-in-word}
@@ -107,20 +106,7 @@ with-agrees at length r event.Refused h = tt
 
 module _ (voice : Voice) (s : List ℕ) (at : ℕ) (there : at + 1 < length s) (one : s ! at < 128) (control : s ! (at + 1) ≡ 0x00 → ⊥)
     (system : s ! (at + 1) ≡ 0xFF → ⊥) where
-  no-mark : isEndMark s at ≡ false
-  unfolding isEndMark
-  no-mark =
-      by-test (isEndMark s at)
-      (λ t.
-      let h : ((at + 4 ≤? length s) and (s ! at ≡? 0) and (s ! (at + 1) ≡? 0) and (s ! (at + 2) ≡? 0) and (s ! (at + 3) ≡? 0)) ≡ true = t in
-      absurd (control (eqb-true (s ! (at + 1)) 0 (and-left _ _ (and-right _ _ (and-right _ _ h))))))
-      (λ t. t)
-
-  item-is : itemAt voice s at ≡ withEvent at (s ! at) (soundAt voice s (at + 1))
-  unfolding itemAt withDuration durationAt eventAt if_then_else_
-  item-is = let here : at < length s = omega arith in simp (no-mark, lt-leb, lt-ltb, ne-eqb)
-
   pub item-sounds : (r : Taken) → EventAgrees (s ! at) r (soundAt voice s (at + 1)) → ItemAgrees r (itemAt voice s at)
-  item-sounds r h = subst (ItemAgrees r) (sym item-is) (with-agrees at (s ! at) r (soundAt voice s (at + 1)) h)
+  item-sounds r h = subst (ItemAgrees r) (sym (sounds-here voice s at there one control system)) (with-agrees at (s ! at) r (soundAt voice s (at + 1)) h)
 
 pub ruleset taking = (score-word, pcm-word, gate-fits, sound-taken, sound-refused, read-in-word, read-timed, read-mark, read-refused, item-sounds)

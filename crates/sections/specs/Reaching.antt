@@ -7,7 +7,6 @@ use Rattle.model.specs.Words.{if_then_else_, _<?_, _≡?_, keep}
 use Rattle.model.specs.Play.{messagesOf}
 use Rattle.model.specs.Points.{isAddress, timeOf}
 use Rattle.model.specs.Word.{isMessage}
-use Rattle.model.specs.declared.Event.{Event}
 use Rattle.model.specs.declared.Reached.{Reached}
 use Rattle.model.specs.declared.Span.{Span}
 use Rattle.sections.specs.Spans.{Items, onsets, messagesAfter, since, placeOf}
@@ -51,10 +50,6 @@ spanTo reached messages time =
       messages = messages - reached .passed;
       lasts = time - reached .time;
     }
-
--- how many messages an event is
-unfoldable pub messagesIn : Event → ℕ
-messagesIn event = if isMessage event then 1 else 0
 
 -- One item further: a duration, so many messages, and the place after it. An item that takes time is the first that is not before its
 -- own onset.

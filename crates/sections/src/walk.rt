@@ -5,22 +5,10 @@ ghost use Prim.Native.Nat.{_≤_};
 ghost use lib.ListN.{length};
 ghost use Rattle.model.specs.Item.{bodyOf, isFine, itemsOf};
 ghost use Rattle.model.specs.Points.{isAddress};
-ghost use Rattle.sections.specs.Reaching.{reachedOf, messagesIn, passedBy, Walked};
-use super::word::is_message;
-use items::read_item;
-use model::Event;
+ghost use Rattle.sections.specs.Reaching.{reachedOf, passedBy, Walked};
+use super::take::take_item;
 use model::Reached;
-use model::ReadItem;
 use model::Voice;
-
-fn messages_in(event: Event) -> usize
-    ensures { λ r. ⌜ (r ≡ messagesIn event) × (r ≤ 1) ⌝ }
-{
-    if is_message(event) {
-        return 1;
-    }
-    0
-}
 
 // One item further.
 fn pass_by(reached: Reached, duration: u32, heard: usize, next: usize) -> Reached
@@ -53,23 +41,14 @@ pub fn walk_to(voice: Voice, body: &[u8], reached: Reached, address: usize) -> R
 {
     let mut now = reached;
     while now.at < address {
-        match read_item(voice, body, now.at) {
-            ReadItem::Timed {
-                duration,
-                event,
-                next,
-            } => {
-                now = pass_by(now, duration, messages_in(event), next);
-            }
-            ReadItem::EndMark { next } => {
-                now = pass_by(now, 0, 0, next);
-            }
-            ReadItem::Refused {
-                number: _,
-                place: _,
-            } => {
-                return now;
-            }
+        if body.len() <= now.at {
+            return now;
+        }
+        let item = take_item(voice, body, now.at);
+        if item.word == 0 {
+            now = pass_by(now, item.duration, 0, item.next);
+        } else {
+            now = pass_by(now, item.duration, 1, item.next);
         }
     }
     now

@@ -10,12 +10,10 @@ use borrow.Author.Tests.{le-leb, lt-leb, le-ltb, lt-ltb, ltb-true, ltb-false}
 use Rattle.model.specs.Words.{if_then_else_, _and_, _<?_, _≤?_, _otherwise_, _>>_, Placed, Checked, Checked.fine, Checked.refused, passed, allPass}
 use Rattle.model.specs.Item.{Item, isFine, checkAnswer}
 use Rattle.model.specs.Seek.{Entry, seekOf, startPoint, orderList, pointsSaid}
-use Rattle.model.specs.Points.{isAddress, isSpan, addressAnswer, pointHolds, pointsHold, isPosition, orderHolds}
+use Rattle.model.specs.Points.{isAddress, isSpan, pointHolds, pointsHold, isPosition, orderHolds}
 use Rattle.model.specs.Track.{pointWidth, pointsOf}
 use Rattle.model.specs.declared.Event.{Event}
 use Rattle.model.specs.declared.Points.{Points}
-use Rattle.model.specs.declared.Address.{Address}
-use Rattle.model.specs.declared.Address.the-variants.{At, Nowhere}
 use Rattle.model.specs.declared.Check.{Check}
 use Rattle.model.specs.declared.Check.the-variants as check
 use Rattle.model.specs.declared.ReadEntry.{ReadEntry}
@@ -31,19 +29,6 @@ Items = List (Placed (Item Event))
 
 -- NUMBERS
 
-module _ (items : Items) (size address : ℕ) (a : Address) (is : a ≡ addressAnswer items size address) where
-  pub address-there : (time : ℕ) → a ≡ At time → true ≡ isAddress items size address
-  unfolding addressAnswer
-  address-there time e =
-      by-test (isAddress items size address) (λ h. sym h)
-      (λ h. let q = sym e ∙ is ∙ if-false _ _ _ h in let z : _≡_ {A = ℕ} 0 1 = cc in absurd (omega arith))
-
-  pub address-nowhere : a ≡ Nowhere → false ≡ isAddress items size address
-  unfolding addressAnswer
-  address-nowhere e =
-      by-test (isAddress items size address)
-      (λ h. let q = sym e ∙ is ∙ if-true _ _ _ h in let z : _≡_ {A = ℕ} 0 1 = cc in absurd (omega arith)) (λ h. sym h)
-
 pub not-over : (a b : ℕ) → (b ≤? a) ≡ not (a <? b)
 not-over a b =
     by-test (a <? b) (λ h. let k = ltb-true a b h in rw h (lt-leb b a k)) (λ h. let k = ltb-false a b h in rw h (le-leb b a k))
@@ -57,7 +42,7 @@ module _ (phrases : Bool) (items : Items) (size letters value : ℕ) (z : Bool) 
   unfolding isPoint
   point-address p h = rw p h
 
-pub ruleset numbered = (address-there, address-nowhere, not-over, point-position, point-address)
+pub ruleset numbered = (not-over, point-position, point-address)
 
 -- a span, whose stop is looked for from its start on
 

@@ -13,9 +13,7 @@ use super::known::read_known;
 use super::next::end_of;
 use super::order::check_letters;
 use super::said::read_points;
-use items::find_address;
 use items::is_address_from;
-use model::Address;
 use model::Check;
 use model::Points;
 use model::ReadEntry;
@@ -26,10 +24,7 @@ fn is_address(voice: Voice, body: &[u8], address: u32) -> bool
     requires { ⌜ isFine (bodyOf voice (now body)) ≡ true ⌝ }
     ensures { λ r. ⌜ r ≡ addressIn voice (now (body .entry)) address ⌝ }
 {
-    match find_address(voice, body, address as usize) {
-        Address::At { time: _ } => true,
-        Address::Nowhere => false,
-    }
+    is_address_from(voice, body, 0, address as usize)
 }
 
 fn is_span(voice: Voice, body: &[u8], start: u32, stop: u32) -> bool

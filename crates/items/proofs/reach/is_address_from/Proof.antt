@@ -18,11 +18,8 @@ loop-holds c = search (needs, reaching)
 returns : tie.Need-returns Inv-loop μ-loop
 returns c = search (needs, reaching)
 
-read-item-requires : tie.Need-read-item-requires Inv-loop μ-loop
-read-item-requires c κs = search (needs, reaching)
-
-enum-known-next : tie.Need-enum-known-next Inv-loop μ-loop
-enum-known-next c = search (needs, reaching)
+pass-item-requires : tie.Need-pass-item-requires Inv-loop μ-loop
+pass-item-requires c κs = search (needs, reaching)
 
 loop-less : tie.Need-loop-less Inv-loop μ-loop
 loop-less c = search (needs, reaching)
@@ -30,23 +27,8 @@ loop-less c = search (needs, reaching)
 loop-again : tie.Need-loop-again Inv-loop μ-loop
 loop-again c = search (needs, reaching)
 
-enum-known-next-2 : tie.Need-enum-known-next-2 Inv-loop μ-loop
-enum-known-next-2 c = search (needs, reaching)
-
-loop-less-2 : tie.Need-loop-less-2 Inv-loop μ-loop
-loop-less-2 c = search (needs, reaching)
-
-loop-again-2 : tie.Need-loop-again-2 Inv-loop μ-loop
-loop-again-2 c = search (needs, reaching)
-
-enum-told : tie.Need-enum-told Inv-loop μ-loop
-enum-told c = search (needs, reaching)
-
 returns-2 : tie.Need-returns-2 Inv-loop μ-loop
 returns-2 c = search (needs, reaching)
-
-returns-3 : tie.Need-returns-3 Inv-loop μ-loop
-returns-3 c = search (needs, reaching)
 
 pub is-address-from-spec : {M : Type 1} → statement M
 is-address-from-spec =
@@ -56,13 +38,7 @@ is-address-from-spec =
     μ-loop
     loop-holds
     returns
-    read-item-requires
-    enum-known-next
+    pass-item-requires
     loop-less
     loop-again
-    enum-known-next-2
-    loop-less-2
-    loop-again-2
-    enum-told
-    returns-2
-    returns-3)
+    returns-2)

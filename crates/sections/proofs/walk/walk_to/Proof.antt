@@ -1,8 +1,9 @@
 -- `sections::walk::walk_to` meets its contract.
 use borrow.Author.Needs.{needs}
+use native.Mathlib.Omega.{arith}
 use Prim.Native.Nat.{_-_}
 use lib.ListN.{length}
-use Rattle.sections.proofs.Nearing.{Nearing, nearing}
+use Rattle.sections.proofs.Nearing.{Nearing, near-starts, nearing}
 use Rattle.sections.proofs.walk.walk_to.Statement.{statement}
 use Rattle.sections.proofs.walk.walk_to.Tie as tie
 
@@ -13,16 +14,14 @@ abbrev μ-loop : tie.MeasureT-loop
 μ-loop voice body address now₀ now = length body - now .at
 
 loop-holds : tie.Need-loop-holds Inv-loop μ-loop
-loop-holds c = search (needs, nearing)
+loop-holds c =
+    near-starts _ _ _ _ (λ k. omega (arith, c .shared-slice-known .given k)) (search needs) (search needs) (search needs) (search needs)
 
-read-item-requires : tie.Need-read-item-requires Inv-loop μ-loop
-read-item-requires c κs = search (needs, nearing)
+returns : tie.Need-returns Inv-loop μ-loop
+returns c = search (needs, nearing)
 
-enum-known-duration : tie.Need-enum-known-duration Inv-loop μ-loop
-enum-known-duration c = search (needs, nearing)
-
-messages-in-requires : tie.Need-messages-in-requires Inv-loop μ-loop
-messages-in-requires c κs = search (needs, nearing)
+take-item-requires : tie.Need-take-item-requires Inv-loop μ-loop
+take-item-requires c κs = (search nearing, (search nearing, search needs))
 
 pass-by-requires : tie.Need-pass-by-requires Inv-loop μ-loop
 pass-by-requires c κs = search (needs, nearing)
@@ -33,9 +32,6 @@ loop-less c = search (needs, nearing)
 loop-again : tie.Need-loop-again Inv-loop μ-loop
 loop-again c = search (needs, nearing)
 
-enum-known-next : tie.Need-enum-known-next Inv-loop μ-loop
-enum-known-next c = search (needs, nearing)
-
 pass-by-requires-2 : tie.Need-pass-by-requires-2 Inv-loop μ-loop
 pass-by-requires-2 c κs = search (needs, nearing)
 
@@ -44,12 +40,6 @@ loop-less-2 c = search (needs, nearing)
 
 loop-again-2 : tie.Need-loop-again-2 Inv-loop μ-loop
 loop-again-2 c = search (needs, nearing)
-
-enum-told : tie.Need-enum-told Inv-loop μ-loop
-enum-told c = search (needs, nearing)
-
-returns : tie.Need-returns Inv-loop μ-loop
-returns c = search (needs, nearing)
 
 returns-2 : tie.Need-returns-2 Inv-loop μ-loop
 returns-2 c = search (needs, nearing)
@@ -61,16 +51,12 @@ walk-to-spec =
     Inv-loop
     μ-loop
     loop-holds
-    read-item-requires
-    enum-known-duration
-    messages-in-requires
+    returns
+    take-item-requires
     pass-by-requires
     loop-less
     loop-again
-    enum-known-next
     pass-by-requires-2
     loop-less-2
     loop-again-2
-    enum-told
-    returns
     returns-2)

@@ -1,0 +1,78 @@
+-- Items passed by: what is read where a byte below 128 and one that is neither 00 nor FF stand, and the place after an item.
+use Prim.Native.Nat.{ℕ, _+_, _<_}
+use mathlib.Core.Bool.{true, false}
+use mathlib.Core.List.{List}
+use mathlib.Core.Path.{_≡_, refl, sym, _∙_, subst}
+use lib.ListN.{length}
+use native.Mathlib.Omega.{arith}
+use borrow.Author.Tests.{lt-leb, lt-ltb, ne-eqb, eqb-true}
+use Rattle.model.specs.Words.{if_then_else_, _and_, _≤?_, _≡?_}
+use Rattle.model.specs.Bytes.{_!_}
+use Rattle.model.specs.Duration.{durationAt, notZero, gateAt}
+use Rattle.model.specs.Event.{isSound, gated, soundAt, eventAt}
+use Rattle.model.specs.Item.{isEndMark, withEvent, withDuration, itemAt}
+use Rattle.model.specs.declared.Voice.{Voice}
+use Rattle.model.specs.declared.Event.{Event}
+use Rattle.model.specs.declared.ReadDuration.{ReadDuration}
+use Rattle.model.specs.declared.ReadDuration.the-variants as duration
+use Rattle.model.specs.declared.ReadEvent.{ReadEvent}
+use Rattle.model.specs.declared.ReadItem.{ReadItem}
+use Rattle.model.specs.declared.ReadItem.the-variants.{Timed, EndMark, Refused}
+use Rattle.model.proofs.Tests.{by-test, if-all, and-left, and-right}
+use Rattle.items.specs.Passing.{EndsAt}
+
+-- AN ITEM THAT IS READ
+
+module _ (voice : Voice) (s : List ℕ) (at : ℕ) (i : ReadItem) (is : i ≡ itemAt voice s at) where
+  pub read-ends : (duration next : ℕ) (event : Event) → i ≡ Timed duration event next → EndsAt next (itemAt voice s at)
+  unfolding EndsAt
+  read-ends duration next event e = subst (EndsAt next) (sym e ∙ is) refl
+
+  pub mark-ends : (next : ℕ) → i ≡ EndMark next → EndsAt next (itemAt voice s at)
+  unfolding EndsAt
+  mark-ends next e = subst (EndsAt next) (sym e ∙ is) refl
+
+  pub none-ends : (place number there : ℕ) → i ≡ Refused number there → EndsAt place (itemAt voice s at)
+  unfolding EndsAt
+  none-ends place number there e = subst (EndsAt place) (sym e ∙ is) tt
+
+-- A NOTE OR WAVE after a duration of one byte
+
+module _ (voice : Voice) (s : List ℕ) (at : ℕ) (there : at + 1 < length s) (one : s ! at < 128) (control : s ! (at + 1) ≡ 0x00 → ⊥)
+    (system : s ! (at + 1) ≡ 0xFF → ⊥) where
+  no-mark : isEndMark s at ≡ false
+  unfolding isEndMark
+  no-mark =
+      by-test (isEndMark s at)
+      (λ t.
+      let h : ((at + 4 ≤? length s) and (s ! at ≡? 0) and (s ! (at + 1) ≡? 0) and (s ! (at + 2) ≡? 0) and (s ! (at + 3) ≡? 0)) ≡ true = t in
+      absurd (control (eqb-true (s ! (at + 1)) 0 (and-left _ _ (and-right _ _ (and-right _ _ h))))))
+      (λ t. t)
+
+  pub sounds-here : itemAt voice s at ≡ withEvent at (s ! at) (soundAt voice s (at + 1))
+  unfolding itemAt withDuration durationAt eventAt if_then_else_
+  sounds-here = let here : at < length s = omega arith in simp (no-mark, lt-leb, lt-ltb, ne-eqb)
+
+  -- and its gate time takes one byte too
+  module _ (room : at + 2 < length s) (short : s ! (at + 2) < 128) where
+    gate-is : gateAt s (at + 1 + 1) ≡ notZero (duration.Is (s ! (at + 2)) (at + 3))
+    unfolding gateAt durationAt if_then_else_
+    gate-is =
+        let place : at + 1 + 1 ≡ at + 2 = omega arith in
+        let after : at + 2 + 1 ≡ at + 3 = omega arith in
+        simp (place, lt-leb, lt-ltb, after)
+
+    gated-ends : EndsAt (at + 3) (withEvent at (s ! at) (gated voice (s ! (at + 1)) (notZero (duration.Is (s ! (at + 2)) (at + 3)))))
+    unfolding notZero gated withEvent EndsAt
+    gated-ends =
+        if-all (λ (d : ReadDuration). EndsAt (at + 3) (withEvent at (s ! at) (gated voice (s ! (at + 1)) d))) (s ! (at + 2) ≡? 0) _ _ (λ t. tt) (λ t. refl)
+
+    pub short-ends : EndsAt (at + 3) (itemAt voice s at)
+    unfolding soundAt withEvent EndsAt
+    short-ends =
+        subst (EndsAt (at + 3)) (sym sounds-here)
+        (if-all (λ (e : ReadEvent). EndsAt (at + 3) (withEvent at (s ! at) e)) (isSound voice (s ! (at + 1))) _ _
+        (λ t. subst (λ (d : ReadDuration). EndsAt (at + 3) (withEvent at (s ! at) (gated voice (s ! (at + 1)) d))) (sym gate-is) gated-ends)
+        (λ t. tt))
+
+pub ruleset passing = (read-ends, mark-ends, none-ends)

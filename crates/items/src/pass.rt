@@ -1,0 +1,49 @@
+// The place after an item of a body that is known to read. A note or wave whose duration and gate time take one byte each, as most items are,
+// takes three bytes, with nothing tested that a body which reads has passed; all others are read.
+ghost use Prim.Native.Nat.{_<_};
+ghost use lib.ListN.{length};
+ghost use Rattle.model.specs.Item.{itemAt};
+ghost use Rattle.items.specs.Passing.{EndsAt};
+use super::item::read_item;
+use model::ReadItem;
+use model::Voice;
+
+fn pass_read(voice: Voice, s: &[u8], at: usize) -> usize
+    ensures { λ r. ⌜ EndsAt r (itemAt voice (now (s .entry)) at) ⌝ }
+{
+    match read_item(voice, s, at) {
+        ReadItem::Timed {
+            duration: _,
+            event: _,
+            next,
+        } => next,
+        ReadItem::EndMark { next } => next,
+        ReadItem::Refused {
+            number: _,
+            place: _,
+        } => 0,
+    }
+}
+
+pub fn pass_item(voice: Voice, s: &[u8], at: usize) -> usize
+    requires { ⌜ at < length (now s) ⌝ }
+    ensures { λ r. ⌜ EndsAt r (itemAt voice (now (s .entry)) at) ⌝ }
+{
+    if s.len() - at < 3 {
+        return pass_read(voice, s, at);
+    }
+    if 128 <= s[at] {
+        return pass_read(voice, s, at);
+    }
+    let byte = s[at + 1];
+    if byte == 0x00 {
+        return pass_read(voice, s, at);
+    }
+    if byte == 0xFF {
+        return pass_read(voice, s, at);
+    }
+    if 128 <= s[at + 2] {
+        return pass_read(voice, s, at);
+    }
+    at + 3
+}
