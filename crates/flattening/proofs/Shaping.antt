@@ -1,6 +1,6 @@
 -- The messages of a span, counted one after the other: the invariant of `shape_of`'s loop, that what is still to be counted makes the
 -- whole, and what each turn and each way out makes of it.
-use Prim.Native.Nat.{ℕ, suc, _+_, _-_, _*_, _<_, _≤_}
+use Prim.Native.Nat.{ℕ, _+_, _-_, _*_, _<_, _≤_}
 use mathlib.Core.Bool.{Bool, true, false}
 use mathlib.Core.List.{List, [], _∷_}
 use mathlib.Core.Path.{_≡_, refl, sym, _∙_, ap}
@@ -23,9 +23,9 @@ use Rattle.model.specs.declared.Span.{Span}
 use Rattle.writing.specs.Parts.{eventSize}
 use Rattle.writing.proofs.Contents.{event-length}
 use Rattle.sections.specs.Spans.{spanRows, Playable}
-use Rattle.sections.proofs.Rowing.{next-rows, message-next, nop-next, mark-next}
+use Rattle.sections.proofs.Ahead.{Ahead, Onward, next-rows, message-next, nop-next, mark-next, playable-begins, span-begins, in-time, in-place, none-ahead, timed-nears, timed-late, timed-onward, mark-nears, mark-onward, never-refused}
 use Rattle.flattening.specs.Parts.{gapSize, spanShape, silence, joined, shaped}
-use Rattle.flattening.proofs.Ahead.{Ahead, span-begins, in-time, in-place, none-ahead, timed-fits, timed-nears, timed-late, timed-onward, mark-nears, mark-onward, never-refused}
+use Rattle.flattening.proofs.Fitting.{read-fits}
 use Rattle.flattening.proofs.Shapes.{outlined, outline-shapes}
 
 -- one message more
@@ -61,9 +61,7 @@ none-joined s outline = refl
 
 pub record Shaping (voice : Voice) (s : List ℕ) (span : Span) (outline : Outline) (count place time : ℕ) : Type 0 where
   pub ahead : Ahead voice s (span .start) place time
-  pub short : time ≤ 1082081407
   pub small : outline .bytes ≤ 1082081667 * place
-  pub within : place ≤ 65536
   pub early : outline .last ≤ time - span .start
   pub whole : shaped (span .lasts) (outlined s outline (next-rows 0 (span .start) count time (ahead .rest))) ≡ spanShape s (itemsOf voice s) span
 
@@ -72,15 +70,13 @@ module _ (voice : Voice) (s : List ℕ) (span : Span) where
       → Playable (itemsOf voice s) (length s) span → Shaping voice s span outline (span .messages) (span .first) (span .past)
   unfolding spanShape
   shape-starts outline nothing bytes small fine playable =
-      let begun = span-begins voice s bytes small fine span playable in
+      let begun = span-begins voice s bytes small fine span (playable-begins (itemsOf voice s) (length s) span playable) in
       record {
         ahead = begun .0;
-        short = in-time voice s (span .start) (span .first) (span .past) (begun .0);
         small = omega (arith, ap (λ (x : Outline). x .bytes) nothing);
-        within = in-place voice s (span .start) (span .first) (span .past) (begun .0);
         early = omega (arith, ap (λ (x : Outline). x .last) nothing);
         whole = ap (λ (x : Outline). shaped (span .lasts) (outlined s x (next-rows 0 (span .start) (span .messages) (span .past) (begun .0 .rest)))) nothing
-            ∙ ap (λ (x : List (At Event)). shaped (span .lasts) (outlined s silence x)) (sym (begun .1 0))
+            ∙ ap (λ (x : List (At Event)). shaped (span .lasts) (outlined s silence x)) (begun .1 0)
             ∙ outline-shapes s (span .lasts) (spanRows (itemsOf voice s) span 0);
       }
 
@@ -95,7 +91,7 @@ module _ (voice : Voice) (s : List ℕ) (span : Span) where
     -- a body has so few bytes that a shape's can be counted on
     pub shape-slight : (shape : Shape) → shape ≡ shaped (span .lasts) outline → shape .bytes ≤ 70915304128512
     unfolding shaped
-    shape-slight shape e = omega (arith, ap (λ (x : Shape). x .bytes) e, r .small, r .within)
+    shape-slight shape e = omega (arith, ap (λ (x : Shape). x .bytes) e, r .small, in-place voice s (span .start) place time (r .ahead))
 
     pub shape-full : (shape : Shape) → shape ≡ shaped (span .lasts) outline → count ≡ 0 → shape ≡ spanShape s (itemsOf voice s) span
     shape-full shape e none = over shape e (rw none refl)
@@ -103,32 +99,27 @@ module _ (voice : Voice) (s : List ℕ) (span : Span) where
     pub shape-ends : (shape : Shape) → shape ≡ shaped (span .lasts) outline → length s ≤ place → shape ≡ spanShape s (itemsOf voice s) span
     shape-ends shape e past = over shape e (none-ahead voice s (span .start) place time (r .ahead) 0 count past)
 
-    module _ (i : ReadItem) (inside : place < length s) (is : i ≡ itemAt voice s place) where
-      -- past an item that is no message
-      silent : (next later : ℕ) (a : Ahead voice s (span .start) next later) → place ≤ next → time ≤ later
-          → rows ≡ next-rows 0 (span .start) count later (a .rest) → Shaping voice s span outline count next later
-      silent next later a further on same =
-          record {
-            ahead = a;
-            short = in-time voice s (span .start) next later a;
-            small = omega (arith, r .small);
-            within = in-place voice s (span .start) next later a;
-            early = omega (arith, r .early);
-            whole = ap (λ (x : List (At Event)). shaped (span .lasts) (outlined s outline x)) (sym same) ∙ r .whole;
-          }
+    -- past an item that is no message
+    silent : (next later : ℕ) (a : Ahead voice s (span .start) next later) → place ≤ next → time ≤ later
+        → rows ≡ next-rows 0 (span .start) count later (a .rest) → Shaping voice s span outline count next later
+    silent next later a further on same =
+        record {
+          ahead = a;
+          small = omega (arith, r .small);
+          early = omega (arith, r .early);
+          whole = ap (λ (x : List (At Event)). shaped (span .lasts) (outlined s outline x)) (sym same) ∙ r .whole;
+        }
 
+    module _ (i : ReadItem) (is : i ≡ itemAt voice s place) where
       module _ (duration next : ℕ) (event : Event) (e : i ≡ Timed duration event next) where
-        onward : (b : Ahead voice s (span .start) next (time + duration)) × (r .ahead .rest ≡ record { place = place; what = timed duration event } ∷ b .rest)
-        onward = timed-onward voice s (span .start) place time (r .ahead) i inside is duration next event e
-
-        nears : place < next
-        nears = timed-nears voice s (span .start) place time (r .ahead) i inside is duration next event e
+        onward : Onward voice s (span .start) place time (r .ahead) (timed duration event) next (time + duration)
+        onward = timed-onward voice s (span .start) place time (r .ahead) duration next event (sym is ∙ e)
 
         pub shape-late : span .start ≤ time + duration
-        shape-late = timed-late voice s (span .start) place time (r .ahead) i inside is duration next event e
+        shape-late = timed-late voice s (span .start) place time (r .ahead) duration next event (sym is ∙ e)
 
         pub shape-few : outline .bytes ≤ 4611686018427387904
-        shape-few = omega (arith, r .small, r .within)
+        shape-few = omega (arith, r .small, in-place voice s (span .start) place time (r .ahead))
 
         pub shape-grows : outline .last ≤ time + duration - span .start
         shape-grows = omega (arith, r .early)
@@ -137,13 +128,12 @@ module _ (voice : Voice) (s : List ℕ) (span : Span) where
         shape-near = omega (arith, in-time voice s (span .start) next (time + duration) (onward .0))
 
         pub shape-nears : length s - next < length s - place
-        shape-nears = omega (arith, nears)
+        shape-nears = timed-nears voice s (span .start) place time (r .ahead) duration next event (sym is ∙ e)
 
         pub shape-silent : (b : Bool) → b ≡ isMessage event → b ≡ false → Shaping voice s span outline count next (time + duration)
         shape-silent b q h =
-            silent next (time + duration) (onward .0) (omega (arith, nears)) (omega arith)
-            (ap (next-rows 0 (span .start) count time) (onward .1)
-            ∙ nop-next 0 (span .start) count time place duration event (onward .0 .rest) (sym q ∙ h))
+            silent next (time + duration) (onward .0) (omega (arith, shape-nears)) (omega arith)
+            (nop-next 0 (span .start) count time place (r .ahead .rest) (onward .0 .rest) duration event (onward .1) (sym q ∙ h))
 
         module _ (b : Bool) (q : b ≡ isMessage event) (h : b ≡ true) (more : count ≡ 0 → ⊥) where
           abbrev step : ℕ
@@ -154,14 +144,11 @@ module _ (voice : Voice) (s : List ℕ) (span : Span) where
 
           first : rows ≡ record { step = step; event = event } ∷ later
           first =
-              let some : count ≡ suc (count - 1) = omega arith in
-              ap (λ (n : ℕ). next-rows 0 (span .start) n time (r .ahead .rest)) some
-              ∙ ap (next-rows 0 (span .start) (suc (count - 1)) time) (onward .1)
-              ∙ message-next 0 (span .start) (count - 1) time place duration event (onward .0 .rest) (sym q ∙ h)
+              message-next 0 (span .start) count time place (r .ahead .rest) (onward .0 .rest) (count - 1) duration event (onward .1) (omega arith) (sym q ∙ h)
               ∙ ap (λ (n : ℕ). record { step = n; event = event } ∷ later) (zero-add step)
 
           sized : length (contentBytes (contentOf s event)) ≡ eventSize event
-          sized = event-length voice s event (timed-fits voice s (span .start) place time (r .ahead) i inside is duration next event e)
+          sized = event-length voice s event (read-fits s (r .ahead .bytes) voice place duration event next (sym is ∙ e))
 
           pub shape-again : (more : Outline) → more ≡ joined outline (time + duration - span .start) (eventSize event)
               → more .last ≡ time + duration - span .start → more .bytes ≤ outline .bytes + (time + duration - span .start + 260)
@@ -173,30 +160,25 @@ module _ (voice : Voice) (s : List ℕ) (span : Span) where
               let near = in-time voice s (span .start) next (time + duration) (onward .0) in
               record {
                 ahead = onward .0;
-                short = near;
-                small = omega (arith, r .small, nears, near, bytes);
-                within = in-place voice s (span .start) next (time + duration) (onward .0);
+                small = omega (arith, r .small, shape-nears, near, bytes);
                 early = omega (arith, last);
                 whole = ap (shaped (span .lasts)) (sym whole-rows) ∙ r .whole;
               }
 
       module _ (next : ℕ) (e : i ≡ EndMark next) where
-        marked : (b : Ahead voice s (span .start) next time) × (r .ahead .rest ≡ record { place = place; what = endMark } ∷ b .rest)
-        marked = mark-onward voice s (span .start) place time (r .ahead) i inside is next e
-
-        after : place < next
-        after = mark-nears voice s (span .start) place time (r .ahead) i inside is next e
+        marked : Onward voice s (span .start) place time (r .ahead) endMark next time
+        marked = mark-onward voice s (span .start) place time (r .ahead) next (sym is ∙ e)
 
         pub shape-nears-mark : length s - next < length s - place
-        shape-nears-mark = omega (arith, after)
+        shape-nears-mark = mark-nears voice s (span .start) place time (r .ahead) next (sym is ∙ e)
 
         pub shape-marks : Shaping voice s span outline count next time
         shape-marks =
-            silent next time (marked .0) (omega (arith, after)) (omega arith)
-            (ap (next-rows 0 (span .start) count time) (marked .1) ∙ mark-next 0 (span .start) count time place (marked .0 .rest))
+            silent next time (marked .0) (omega (arith, shape-nears-mark)) (omega arith)
+            (mark-next 0 (span .start) count time place (r .ahead .rest) (marked .0 .rest) (marked .1))
 
-      pub shape-never : (shape : Shape) (number there : ℕ) → i ≡ Refused number there → shape ≡ spanShape s (itemsOf voice s) span
-      shape-never shape number there e = absurd (never-refused voice s (span .start) place time (r .ahead) i inside is number there e)
+      pub shape-never : (shape : Shape) (number there : ℕ) → place < length s → i ≡ Refused number there → shape ≡ spanShape s (itemsOf voice s) span
+      shape-never shape number there inside e = absurd (never-refused voice s (span .start) place time (r .ahead) number there inside (sym is ∙ e))
 
 pub ruleset shapes = (shape-late, shape-few, shape-grows, shape-near, shape-nears, shape-silent, shape-again, shape-nears-mark, shape-marks)
 

@@ -1,6 +1,6 @@
 -- The messages of a span, written one after the other: the invariant of `write_messages`' loop, that what is still to be written makes the
 -- whole, and what each turn and each way out makes of it.
-use Prim.Native.Nat.{ℕ, suc, _+_, _-_, _<_, _≤_}
+use Prim.Native.Nat.{ℕ, _+_, _-_, _<_, _≤_}
 use mathlib.Core.Bool.{Bool, true, false}
 use mathlib.Core.List.{List, [], _∷_, _++_}
 use mathlib.Core.Path.{_≡_, refl, sym, _∙_, ap}
@@ -21,10 +21,10 @@ use Rattle.model.specs.declared.ReadItem.the-variants.{Timed, EndMark, Refused}
 use Rattle.model.specs.declared.Span.{Span}
 use Rattle.model.proofs.Stores.{sets-append}
 use Rattle.sections.specs.Spans.{spanRows, Playable}
-use Rattle.sections.proofs.Rowing.{next-rows, message-next, nop-next, mark-next}
+use Rattle.sections.proofs.Ahead.{Ahead, Onward, next-rows, message-next, nop-next, mark-next, playable-begins, span-begins, none-ahead, timed-nears, timed-late, timed-onward, mark-nears, mark-onward, never-refused}
 use Rattle.flattening.specs.Parts.{plainPart, lastStep, told, partBytes, partLast, messageBytes}
 use Rattle.flattening.proofs.Joining.{part-first}
-use Rattle.flattening.proofs.Ahead.{Ahead, span-begins, in-time, none-ahead, timed-fits, timed-nears, timed-late, timed-onward, mark-nears, mark-onward, never-refused}
+use Rattle.flattening.proofs.Fitting.{read-fits}
 
 -- one message: the waits, and its item after them
 module _ (s : List ℕ) (gap : ℕ) (event : Event) where
@@ -70,7 +70,6 @@ last-first s past step event rows = refl
 pub record Telling (voice : Voice) (s : List ℕ) (span : Span) (before past : ℕ) (l : List ℕ) (at : ℕ) (out : List ℕ) (here last count place time : ℕ)
     : Type 0 where
   pub ahead : Ahead voice s (span .start) place time
-  pub short : time ≤ 1082081407
   pub low : before ≤ 4611686018427387904
   pub early : last ≤ before + (time - span .start)
   pub same : length out ≡ length l
@@ -89,11 +88,10 @@ module _ (voice : Voice) (s : List ℕ) (span : Span) (before past : ℕ) (l : L
       → before ≤ 4611686018427387904 → past ≤ before → at + length (partBytes s past (spanRows (itemsOf voice s) span before)) ≤ length l
       → Telling voice s span before past l at l at past (span .messages) (span .first) (span .past)
   tell-starts bytes small fine playable low early room =
-      let begun = span-begins voice s bytes small fine span playable in
-      let rows = sym (begun .1 before) in
+      let begun = span-begins voice s bytes small fine span (playable-begins (itemsOf voice s) (length s) span playable) in
+      let rows = begun .1 before in
       record {
         ahead = begun .0;
-        short = in-time voice s (span .start) (span .first) (span .past) (begun .0);
         low = low;
         early = omega arith;
         same = refl;
@@ -145,45 +143,43 @@ module _ (voice : Voice) (s : List ℕ) (span : Span) (before past : ℕ) (l : L
     pub end-out : length s ≤ place → out ≡ sets l at (partBytes s past (spanRows (itemsOf voice s) span before))
     end-out h = over-out (past-end h)
 
-    module _ (i : ReadItem) (inside : place < length s) (is : i ≡ itemAt voice s place) where
-      -- past an item that is no message
-      silent : (next later : ℕ) (a : Ahead voice s (span .start) next later) → time ≤ later
-          → rows ≡ next-rows before (span .start) count later (a .rest)
-          → Telling voice s span before past l at out here last count next later
-      silent next later a on same =
-          record {
-            ahead = a;
-            short = in-time voice s (span .start) next later a;
-            low = r .low;
-            early = omega (arith, r .early);
-            same = r .same;
-            size = ap (λ (x : List (At Event)). here + length (partBytes s last x)) (sym same) ∙ r .size;
-            room = r .room;
-            ends = ap (partLast s last) (sym same) ∙ r .ends;
-            whole = ap (λ (x : List (At Event)). sets out here (partBytes s last x)) (sym same) ∙ r .whole;
-          }
+    -- past an item that is no message
+    silent : (next later : ℕ) (a : Ahead voice s (span .start) next later) → time ≤ later
+        → rows ≡ next-rows before (span .start) count later (a .rest)
+        → Telling voice s span before past l at out here last count next later
+    silent next later a on same =
+        record {
+          ahead = a;
+          low = r .low;
+          early = omega (arith, r .early);
+          same = r .same;
+          size = ap (λ (x : List (At Event)). here + length (partBytes s last x)) (sym same) ∙ r .size;
+          room = r .room;
+          ends = ap (partLast s last) (sym same) ∙ r .ends;
+          whole = ap (λ (x : List (At Event)). sets out here (partBytes s last x)) (sym same) ∙ r .whole;
+        }
 
+    module _ (i : ReadItem) (is : i ≡ itemAt voice s place) where
       module _ (duration next : ℕ) (event : Event) (e : i ≡ Timed duration event next) where
-        onward : (b : Ahead voice s (span .start) next (time + duration)) × (r .ahead .rest ≡ record { place = place; what = timed duration event } ∷ b .rest)
-        onward = timed-onward voice s (span .start) place time (r .ahead) i inside is duration next event e
+        onward : Onward voice s (span .start) place time (r .ahead) (timed duration event) next (time + duration)
+        onward = timed-onward voice s (span .start) place time (r .ahead) duration next event (sym is ∙ e)
 
         pub tell-fits : eventFits voice s event ≡ true
-        tell-fits = timed-fits voice s (span .start) place time (r .ahead) i inside is duration next event e
+        tell-fits = read-fits s (r .ahead .bytes) voice place duration event next (sym is ∙ e)
 
         pub tell-late : span .start ≤ time + duration
-        tell-late = timed-late voice s (span .start) place time (r .ahead) i inside is duration next event e
+        tell-late = timed-late voice s (span .start) place time (r .ahead) duration next event (sym is ∙ e)
 
         pub tell-gap : last ≤ before + (time + duration - span .start)
         tell-gap = omega (arith, r .early)
 
         pub tell-nears : length s - next < length s - place
-        tell-nears = omega (arith, timed-nears voice s (span .start) place time (r .ahead) i inside is duration next event e)
+        tell-nears = timed-nears voice s (span .start) place time (r .ahead) duration next event (sym is ∙ e)
 
         pub tell-silent : (b : Bool) → b ≡ isMessage event → b ≡ false → Telling voice s span before past l at out here last count next (time + duration)
         tell-silent b q h =
             silent next (time + duration) (onward .0) (omega arith)
-            (ap (next-rows before (span .start) count time) (onward .1)
-            ∙ nop-next before (span .start) count time place duration event (onward .0 .rest) (sym q ∙ h))
+            (nop-next before (span .start) count time place (r .ahead .rest) (onward .0 .rest) duration event (onward .1) (sym q ∙ h))
 
         module _ (b : Bool) (q : b ≡ isMessage event) (h : b ≡ true) (more : count ≡ 0 → ⊥) where
           abbrev step : ℕ
@@ -194,10 +190,8 @@ module _ (voice : Voice) (s : List ℕ) (span : Span) (before past : ℕ) (l : L
 
           first : rows ≡ record { step = step; event = event } ∷ later
           first =
-              let some : count ≡ suc (count - 1) = omega arith in
-              ap (λ (n : ℕ). next-rows before (span .start) n time (r .ahead .rest)) some
-              ∙ ap (next-rows before (span .start) (suc (count - 1)) time) (onward .1)
-              ∙ message-next before (span .start) (count - 1) time place duration event (onward .0 .rest) (sym q ∙ h)
+              message-next before (span .start) count time place (r .ahead .rest) (onward .0 .rest) (count - 1) duration event (onward .1) (omega arith)
+              (sym q ∙ h)
 
           first-bytes : partBytes s last rows ≡ messageBytes s (step - last) event ++ partBytes s step later
           first-bytes = ap (partBytes s last) first ∙ part-first s last step event later
@@ -216,7 +210,6 @@ module _ (voice : Voice) (s : List ℕ) (span : Span) (before past : ℕ) (l : L
               rw (w, n, first-bytes) (sets-append out here (messageBytes s (step - last) event) (partBytes s step later)) in
               record {
                 ahead = onward .0;
-                short = in-time voice s (span .start) next (time + duration) (onward .0);
                 low = r .low;
                 early = omega arith;
                 same = k ∙ r .same;
@@ -227,20 +220,20 @@ module _ (voice : Voice) (s : List ℕ) (span : Span) (before past : ℕ) (l : L
               }
 
       module _ (next : ℕ) (e : i ≡ EndMark next) where
-        marked : (b : Ahead voice s (span .start) next time) × (r .ahead .rest ≡ record { place = place; what = endMark } ∷ b .rest)
-        marked = mark-onward voice s (span .start) place time (r .ahead) i inside is next e
+        marked : Onward voice s (span .start) place time (r .ahead) endMark next time
+        marked = mark-onward voice s (span .start) place time (r .ahead) next (sym is ∙ e)
 
         pub tell-nears-mark : length s - next < length s - place
-        tell-nears-mark = omega (arith, mark-nears voice s (span .start) place time (r .ahead) i inside is next e)
+        tell-nears-mark = mark-nears voice s (span .start) place time (r .ahead) next (sym is ∙ e)
 
         pub tell-marks : Telling voice s span before past l at out here last count next time
         tell-marks =
             silent next time (marked .0) (omega arith)
-            (ap (next-rows before (span .start) count time) (marked .1) ∙ mark-next before (span .start) count time place (marked .0 .rest))
+            (mark-next before (span .start) count time place (r .ahead .rest) (marked .0 .rest) (marked .1))
 
-      module _ (number there : ℕ) (e : i ≡ Refused number there) where
+      module _ (number there : ℕ) (inside : place < length s) (e : i ≡ Refused number there) where
         never : ⊥
-        never = never-refused voice s (span .start) place time (r .ahead) i inside is number there e
+        never = never-refused voice s (span .start) place time (r .ahead) number there inside (sym is ∙ e)
 
         pub never-at : here ≡ at + length (partBytes s past (spanRows (itemsOf voice s) span before))
         never-at = absurd never

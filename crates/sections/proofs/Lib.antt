@@ -4,6 +4,7 @@ pub mod InWords
 pub mod Places
 pub mod Taking
 pub mod Stretches
+pub mod Ahead
 pub mod Rowing
 pub mod Walking
 pub mod Nearing
