@@ -1,6 +1,6 @@
 -- Items passed by: what is read where a byte below 128 and one that is neither 00 nor FF stand, and the place after an item.
 use Prim.Native.Nat.{ℕ, _+_, _<_}
-use mathlib.Core.Bool.{true, false}
+use mathlib.Core.Bool.{Bool, true, false}
 use mathlib.Core.List.{List}
 use mathlib.Core.Path.{_≡_, refl, sym, _∙_, subst}
 use lib.ListN.{length}
@@ -19,7 +19,7 @@ use Rattle.model.specs.declared.ReadEvent.{ReadEvent}
 use Rattle.model.specs.declared.ReadItem.{ReadItem}
 use Rattle.model.specs.declared.ReadItem.the-variants.{Timed, EndMark, Refused}
 use Rattle.model.proofs.Tests.{by-test, if-all, and-left, and-right}
-use Rattle.items.specs.Passing.{EndsAt}
+use Rattle.items.specs.Passing.{EndsAt, ShortAt, ShortIf}
 
 -- AN ITEM THAT IS READ
 
@@ -74,5 +74,19 @@ module _ (voice : Voice) (s : List ℕ) (at : ℕ) (there : at + 1 < length s) (
         (if-all (λ (e : ReadEvent). EndsAt (at + 3) (withEvent at (s ! at) e)) (isSound voice (s ! (at + 1))) _ _
         (λ t. subst (λ (d : ReadDuration). EndsAt (at + 3) (withEvent at (s ! at) (gated voice (s ! (at + 1)) d))) (sym gate-is) gated-ends)
         (λ t. tt))
+
+    -- all of it in order
+    short-stands : (s ! (at + 2) ≡ 0 → ⊥) → isSound voice (s ! (at + 1)) ≡ true → ShortAt voice s at
+    unfolding soundAt withEvent notZero gated if_then_else_
+    short-stands some ok = record { is = sounds-here ∙ simp (ok, gate-is, ne-eqb); within = omega arith; one = one }
+
+    pub short-told : (r : Bool) → (s ! (at + 2) ≡ 0 → ⊥) → r ≡ isSound voice (s ! (at + 1)) → ShortIf r voice s at
+    unfolding ShortIf
+    short-told true some e = short-stands some (sym e)
+    short-told false some e = tt
+
+pub not-short : (voice : Voice) (s : List ℕ) (at : ℕ) → ShortIf false voice s at
+unfolding ShortIf
+not-short voice s at = tt
 
 pub ruleset passing = (read-ends, mark-ends, none-ends)

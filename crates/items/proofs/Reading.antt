@@ -6,8 +6,11 @@ use mathlib.Core.Path.{_≡_, refl, sym, _∙_, ap, ap₂, subst}
 use lib.ListN.{length}
 use native.Mathlib.Nat.{add-zero, zero-add}
 use native.Mathlib.Omega.{arith}
-use borrow.Author.Tests.{eq-eqb, ne-eqb}
-use Rattle.model.specs.Words.{if_then_else_, sum, Placed, Checked, Checked.fine, Checked.refused, passed, Step, Step.met, Step.stuck, walkTo, inTurn}
+use mir.Val.{Fits}
+use mir.Syntax.{w64}
+use borrow.Author.Tests.{eq-eqb, ne-eqb, eqb-true, eqb-false}
+use Rattle.model.specs.Words.{if_then_else_, _≡?_, sum, Placed, Checked, Checked.fine, Checked.refused, passed, Step, Step.met, Step.stuck, walkTo, inTurn}
+use Rattle.model.specs.Bytes.{_!_}
 use Rattle.model.specs.Item.{Item, Item.timed, Item.endMark, durationOf, lasting, itemAt, itemMet, itemStep, isMark, afterEndMark, notAfterEndMark, bodyOf, bodyAnswer}
 use Rattle.model.specs.declared.Voice.{Voice}
 use Rattle.model.specs.declared.Event.{Event}
@@ -15,7 +18,9 @@ use Rattle.model.specs.declared.ReadItem.{ReadItem}
 use Rattle.model.specs.declared.ReadItem.the-variants.{Timed, EndMark, Refused}
 use Rattle.model.specs.declared.ReadBody.{ReadBody}
 use Rattle.model.specs.declared.ReadBody.the-variants as body
+use Rattle.model.proofs.Tests.{by-test}
 use Rattle.model.proofs.Walks.{withFirst, Left, left-starts, left-ends, left-stuck, left-refused, left-next}
+use Rattle.items.specs.Passing.{ShortAt, ShortIf, endedAt}
 use Rattle.items.proofs.Ahead.{ItemAhead, item-ahead}
 
 abbrev Items : Type 0
@@ -123,7 +128,7 @@ module _ (voice : Voice) (s : List ℕ) (at count lasts : ℕ) (r : Reading voic
           same = t .2;
         }
 
-    pub body-marked : (next : ℕ) → i ≡ EndMark next → next ≡ length s → body.Whole (count + 1) lasts ≡ bodyAnswer (bodyOf voice s)
+    body-marked : (next : ℕ) → i ≡ EndMark next → next ≡ length s → body.Whole (count + 1) lasts ≡ bodyAnswer (bodyOf voice s)
     unfolding itemMet durationOf
     body-marked next e q =
         let t = taken endMark next (stands (EndMark next) e) (ahead (EndMark next) e) in
@@ -144,7 +149,7 @@ module _ (voice : Voice) (s : List ℕ) (at count lasts : ℕ) (r : Reading voic
     refused-after before left next l marked more (Refused number place) e a =
         left-stuck _ _ _ _ next before left l number place more (ap (itemMet next) e) ∙ ap₂ refused (a .0) (a .1)
 
-    pub body-goes-on : (next : ℕ) → i ≡ EndMark next → (next ≡ length s → ⊥) → body.Refused 11 next ≡ bodyAnswer (bodyOf voice s)
+    body-goes-on : (next : ℕ) → i ≡ EndMark next → (next ≡ length s → ⊥) → body.Refused 11 next ≡ bodyAnswer (bodyOf voice s)
     unfolding itemMet onto afterEndMark isMark durationOf
     body-goes-on next e q =
         let a = ahead (EndMark next) e in
@@ -154,4 +159,31 @@ module _ (voice : Voice) (s : List ℕ) (at count lasts : ℕ) (r : Reading voic
         (sym (refused-after before (t .0) next (t .1) refl (omega arith) (itemAt voice s next) refl (item-ahead voice s next)))
         ∙ t .2
 
-pub ruleset reading = (body-empty, body-starts, body-ends, body-refused, body-nears, body-reads, body-marked, body-goes-on)
+    pub body-marks : (next : ℕ) (answer : ReadBody) → i ≡ EndMark next → answer ≡ endedAt (length s) next count lasts → answer ≡ bodyAnswer (bodyOf voice s)
+    unfolding endedAt if_then_else_
+    body-marks next answer e q =
+        q ∙ by-test (next ≡? length s) (λ t. simp t (body-marked next e (eqb-true next (length s) t))) (λ t. simp t (body-goes-on next e (eqb-false next (length s) t)))
+
+  pub body-few : at < length s → length s ≤ 65536 → count ≤ 65536
+  body-few here small = omega (arith, r .few)
+
+  -- a short note or wave
+  module _ (told : Bool) (here : at < length s) (found : told ≡ true) (so : ShortIf told voice s at) where
+    short : ShortAt voice s at
+    unfolding ShortIf
+    short = subst (λ (b : Bool). ShortIf b voice s at) found so
+
+    pub short-within : at + 3 ≤ length s
+    short-within = short .within
+
+    pub short-widens : Fits w64 (s ! at)
+    short-widens = record { fits = omega (arith, short .one) }
+
+    pub short-adds : length s ≤ 65536 → Fits w64 (lasts + s ! at)
+    short-adds few = record { fits = omega (arith, short .one, r .small) }
+
+    pub body-shorts : Reading voice s (at + 3) (count + 1) (lasts + s ! at)
+    body-shorts = body-reads (itemAt voice s at) here refl (s ! at) (at + 3) _ (short .is) (omega (arith, short .one))
+
+pub ruleset reading =
+    (body-empty, body-starts, body-ends, body-refused, body-nears, body-reads, body-marks, body-few, short-within, short-widens, short-adds, body-shorts)

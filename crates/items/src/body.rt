@@ -3,13 +3,32 @@ ghost use mathlib.Core.Path.{_≡_};
 ghost use Prim.Native.Nat.{_≤_};
 ghost use lib.ListN.{length};
 ghost use Rattle.model.specs.Item.{bodyOf, bodyAnswer, setupMessageAt, setupOf, checkAnswer};
+ghost use Rattle.items.specs.Passing.{endedAt};
 use super::event::read_exclusive;
 use super::item::read_item;
+use super::pass::is_short;
 use model::Check;
 use model::ReadBody;
 use model::ReadEvent;
 use model::ReadItem;
 use model::Voice;
+
+// What a body of a size comes to, after so many items, where its end mark ends at a place.
+fn end_body(size: usize, next: usize, count: usize, lasts: u64) -> ReadBody
+    requires { ⌜ count ≤ 65536 ⌝ }
+    ensures { λ r. ⌜ r ≡ endedAt size next count lasts ⌝ }
+{
+    if next == size {
+        return ReadBody::Whole {
+            count: count + 1,
+            duration: lasts,
+        };
+    }
+    ReadBody::Refused {
+        number: 11,
+        place: next,
+    }
+}
 
 pub fn read_body(voice: Voice, s: &[u8]) -> ReadBody
     requires { ⌜ length (now s) ≤ 65536 ⌝ }
@@ -25,30 +44,28 @@ pub fn read_body(voice: Voice, s: &[u8]) -> ReadBody
     let mut count: usize = 0;
     let mut lasts: u64 = 0;
     while at < s.len() {
-        match read_item(voice, s, at) {
-            ReadItem::Timed {
-                duration,
-                event: _,
-                next,
-            } => {
-                count += 1;
-                lasts += duration as u64;
-                at = next;
-            }
-            ReadItem::EndMark { next } => {
-                if next == s.len() {
-                    return ReadBody::Whole {
-                        count: count + 1,
-                        duration: lasts,
-                    };
+        if is_short(voice, s, at) {
+            let duration = s[at];
+            count += 1;
+            lasts += duration as u64;
+            at += 3;
+        } else {
+            match read_item(voice, s, at) {
+                ReadItem::Timed {
+                    duration,
+                    event: _,
+                    next,
+                } => {
+                    count += 1;
+                    lasts += duration as u64;
+                    at = next;
                 }
-                return ReadBody::Refused {
-                    number: 11,
-                    place: next,
-                };
-            }
-            ReadItem::Refused { number, place } => {
-                return ReadBody::Refused { number, place };
+                ReadItem::EndMark { next } => {
+                    return end_body(s.len(), next, count, lasts);
+                }
+                ReadItem::Refused { number, place } => {
+                    return ReadBody::Refused { number, place };
+                }
             }
         }
     }

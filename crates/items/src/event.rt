@@ -27,7 +27,7 @@ pub fn is_wave(low: u8) -> bool
     low <= 62
 }
 
-fn is_sound(voice: Voice, byte: u8) -> bool
+pub fn is_sound(voice: Voice, byte: u8) -> bool
     ensures { λ r. ⌜ r ≡ isSound voice byte ⌝ }
 {
     match voice {

@@ -1,9 +1,10 @@
-// The place after an item of a body that is known to read. A note or wave whose duration and gate time take one byte each, as most items are,
-// takes three bytes, with nothing tested that a body which reads has passed; all others are read.
+// Notes and waves whose duration and gate time take one byte each, as most items are: whether one stands at a place, and the place after an
+// item of a body that is known to read, which for these is three bytes on, with nothing tested that such a body has passed.
 ghost use Prim.Native.Nat.{_<_};
 ghost use lib.ListN.{length};
 ghost use Rattle.model.specs.Item.{itemAt};
-ghost use Rattle.items.specs.Passing.{EndsAt};
+ghost use Rattle.items.specs.Passing.{EndsAt, ShortIf};
+use super::event::is_sound;
 use super::item::read_item;
 use model::ReadItem;
 use model::Voice;
@@ -46,4 +47,32 @@ pub fn pass_item(voice: Voice, s: &[u8], at: usize) -> usize
         return pass_read(voice, s, at);
     }
     at + 3
+}
+
+// Whether a short note or wave stands at a place, and is not refused.
+pub fn is_short(voice: Voice, s: &[u8], at: usize) -> bool
+    requires { ⌜ at < length (now s) ⌝ }
+    ensures { λ r. ⌜ ShortIf r voice (now (s .entry)) at ⌝ }
+{
+    if s.len() - at < 3 {
+        return false;
+    }
+    if 128 <= s[at] {
+        return false;
+    }
+    let byte = s[at + 1];
+    if byte == 0x00 {
+        return false;
+    }
+    if byte == 0xFF {
+        return false;
+    }
+    let gate = s[at + 2];
+    if gate == 0 {
+        return false;
+    }
+    if 128 <= gate {
+        return false;
+    }
+    is_sound(voice, byte)
 }

@@ -18,11 +18,11 @@ returns c = search (needs, reading)
 loop-holds : tie.Need-loop-holds Inv-loop μ-loop
 loop-holds c = search (needs, reading)
 
-read-item-requires : tie.Need-read-item-requires Inv-loop μ-loop
-read-item-requires c κs = search (needs, reading)
+is-short-requires : tie.Need-is-short-requires Inv-loop μ-loop
+is-short-requires c κs = search (needs, reading)
 
-enum-known-duration : tie.Need-enum-known-duration Inv-loop μ-loop
-enum-known-duration c = search (needs, reading)
+shared-slice-read-duration : tie.Need-shared-slice-read-duration Inv-loop μ-loop
+shared-slice-read-duration c = search (needs, reading)
 
 add-count : tie.Need-add-count Inv-loop μ-loop
 add-count c = search (needs, reading)
@@ -33,32 +33,53 @@ cast-lasts c = search (needs, reading)
 add-lasts : tie.Need-add-lasts Inv-loop μ-loop
 add-lasts c = search (needs, reading)
 
+add-at : tie.Need-add-at Inv-loop μ-loop
+add-at c = search (needs, reading)
+
 loop-less : tie.Need-loop-less Inv-loop μ-loop
 loop-less c = search (needs, reading)
 
 loop-again : tie.Need-loop-again Inv-loop μ-loop
 loop-again c = search (needs, reading)
 
+read-item-requires : tie.Need-read-item-requires Inv-loop μ-loop
+read-item-requires c κs = search (needs, reading)
+
+enum-known-duration : tie.Need-enum-known-duration Inv-loop μ-loop
+enum-known-duration c = search (needs, reading)
+
+add-count-2 : tie.Need-add-count-2 Inv-loop μ-loop
+add-count-2 c = search (needs, reading)
+
+cast-lasts-2 : tie.Need-cast-lasts-2 Inv-loop μ-loop
+cast-lasts-2 c = search (needs, reading)
+
+add-lasts-2 : tie.Need-add-lasts-2 Inv-loop μ-loop
+add-lasts-2 c = search (needs, reading)
+
+loop-less-2 : tie.Need-loop-less-2 Inv-loop μ-loop
+loop-less-2 c = search (needs, reading)
+
+loop-again-2 : tie.Need-loop-again-2 Inv-loop μ-loop
+loop-again-2 c = search (needs, reading)
+
 enum-known-next : tie.Need-enum-known-next Inv-loop μ-loop
 enum-known-next c = search (needs, reading)
 
-add-t19 : tie.Need-add-t19 Inv-loop μ-loop
-add-t19 c = search (needs, reading)
+end-body-requires : tie.Need-end-body-requires Inv-loop μ-loop
+end-body-requires c κs = search (needs, reading)
 
 returns-2 : tie.Need-returns-2 Inv-loop μ-loop
 returns-2 c = search (needs, reading)
 
-returns-3 : tie.Need-returns-3 Inv-loop μ-loop
-returns-3 c = search (needs, reading)
-
 enum-known-number : tie.Need-enum-known-number Inv-loop μ-loop
 enum-known-number c = search (needs, reading)
 
+returns-3 : tie.Need-returns-3 Inv-loop μ-loop
+returns-3 c = search (needs, reading)
+
 returns-4 : tie.Need-returns-4 Inv-loop μ-loop
 returns-4 c = search (needs, reading)
-
-returns-5 : tie.Need-returns-5 Inv-loop μ-loop
-returns-5 c = search (needs, reading)
 
 pub read-body-spec : {M : Type 1} → statement M
 read-body-spec =
@@ -68,17 +89,24 @@ read-body-spec =
     μ-loop
     returns
     loop-holds
-    read-item-requires
-    enum-known-duration
+    is-short-requires
+    shared-slice-read-duration
     add-count
     cast-lasts
     add-lasts
+    add-at
     loop-less
     loop-again
+    read-item-requires
+    enum-known-duration
+    add-count-2
+    cast-lasts-2
+    add-lasts-2
+    loop-less-2
+    loop-again-2
     enum-known-next
-    add-t19
+    end-body-requires
     returns-2
-    returns-3
     enum-known-number
-    returns-4
-    returns-5)
+    returns-3
+    returns-4)
