@@ -1,6 +1,6 @@
 -- The search for an address: the invariants of the loops of `is_address_from` and `find_address`, and what each way out of them and each
 -- turn makes of them.
-use Prim.Native.Nat.{ℕ, zero, suc, _+_, _-_, _*_, _<_, _≤_}
+use Prim.Native.Nat.{ℕ, _+_, _-_, _*_, _<_, _≤_}
 use mathlib.Core.List.{List, [], _∷_}
 use mathlib.Core.Bool.{Bool, true, false, false≢true}
 use mathlib.Core.Path.{_≡_, refl, sym, _∙_, ap, ap₂, subst}
@@ -9,17 +9,16 @@ use native.Mathlib.Nat.{add-zero, zero-add, add-assoc}
 use native.Mathlib.Decide.{decLt}
 use native.Mathlib.Omega.{arith}
 use borrow.Author.Tests.{eq-eqb, ne-eqb, eqb-true, eqb-false, lt-ltb, le-ltb}
-use Rattle.model.specs.Words.{if_then_else_, _or_, _<?_, _≡?_, any, keep, sum, Placed, Checked, Checked.fine, Step, Step.met, Step.stuck}
+use Rattle.model.specs.Words.{if_then_else_, _or_, _<?_, _≡?_, any, keep, sum, Placed, Checked.fine, Step.met, Step.stuck}
 use Rattle.model.specs.Item.{Item, Item.timed, Item.endMark, durationOf, lasting, itemAt, itemMet, itemStep, bodyOf, isFine, itemsOf}
 use Rattle.model.specs.Points.{isAddress, timeOf, addressAnswer}
 use Rattle.model.specs.declared.Voice.{Voice}
 use Rattle.model.specs.declared.Event.{Event}
 use Rattle.model.specs.declared.ReadItem.{ReadItem}
 use Rattle.model.specs.declared.ReadItem.the-variants.{Timed, EndMark, Refused}
-use Rattle.model.specs.declared.Address.{Address}
 use Rattle.model.specs.declared.Address.the-variants.{At, Nowhere}
 use Rattle.model.proofs.Tests.{by-test}
-use Rattle.model.proofs.Walks.{GoesOn, Stand, fine-found}
+use Rattle.model.proofs.Walks.{GoesOn, Stand, stand-first, stand-never-stuck, fine-found}
 use Rattle.items.proofs.Standing.{body-stands}
 use Rattle.items.proofs.Ahead.{ItemAhead, item-ahead, item-goes}
 
@@ -53,6 +52,28 @@ module _ (voice : Voice) (s : List ℕ) (at : ℕ) (item : Placed (Item Event)) 
   pub stands-far : at + 3 ≤ next
   unfolding itemStep
   stands-far = met-far at (length s) (itemAt voice s at) item next (item-ahead voice s at) e
+
+-- what is read at a place is met there, and ends nearer to the body's end
+module _ (voice : Voice) (s : List ℕ) (at : ℕ) (i : ReadItem) (is : i ≡ itemAt voice s at) where
+  module _ (duration next : ℕ) (event : Event) (e : i ≡ Timed duration event next) where
+    pub timed-met : itemStep voice s at ≡ met (record { place = at; what = timed duration event }) next
+    unfolding itemStep itemMet
+    timed-met = ap (itemMet at) (sym is ∙ e)
+
+    pub timed-nears : length s - next < length s - at
+    timed-nears = omega (arith, stands-ahead voice s at _ next timed-met)
+
+  module _ (next : ℕ) (e : i ≡ EndMark next) where
+    pub mark-met : itemStep voice s at ≡ met (record { place = at; what = endMark }) next
+    unfolding itemStep itemMet
+    mark-met = ap (itemMet at) (sym is ∙ e)
+
+    pub mark-nears : length s - next < length s - at
+    mark-nears = omega (arith, stands-ahead voice s at _ next mark-met)
+
+  pub refused-stuck : (number place : ℕ) → i ≡ Refused number place → itemStep voice s at ≡ stuck number place
+  unfolding itemStep itemMet
+  refused-stuck number place e = ap (itemMet at) (sym is ∙ e)
 
 -- the two halves of what is asked of an address, of the items from some place on
 abbrev pub isThere : Items → ℕ → ℕ → Bool
@@ -157,71 +178,39 @@ module _ (voice : Voice) (s : List ℕ) (address at : ℕ) (r : Reaching voice s
   pub reach-runs-out : at < address → length s ≤ at → false ≡ isAddress (itemsOf voice s) (length s) address
   reach-runs-out before past = sym (reach-over before past) ∙ r .there
 
-  -- the item that stands at the place
-  first-item : at < length s → (item : Placed (Item Event)) × (rest : Items) × (r .rest ≡ item ∷ rest)
-  first-item here = go (r .rest) refl
-    where
-      go : (items : Items) → r .rest ≡ items → (item : Placed (Item Event)) × (rest : Items) × (r .rest ≡ item ∷ rest)
-      go [] e = let over : at ≡ length s = subst (Standing voice s at) e (r .stands) in absurd (omega arith)
-      go (item ∷ rest) e = (item, rest, e)
-
   -- one item further
   reach-steps : (item : Placed (Item Event)) (next : ℕ) → itemStep voice s at ≡ met item next → at < address
       → (more : Reaching voice s address next) × (r .rest ≡ item ∷ more .rest)
   reach-steps item next is before =
       let a = stands-ahead voice s at item next is in
-      let f = first-item (omega arith) in
-      let st : Standing voice s at (f .0 ∷ f .1) = subst (Standing voice s at) (f .2) (r .stands) in
-      let both : met (f .0) (st .0) ≡ met item next = sym (st .1) ∙ is in
-      let same : f .0 ≡ item = cc in
-      let on : st .0 ≡ next = cc in
-      let rests : r .rest ≡ item ∷ f .1 = f .2 ∙ ap (λ (i : Placed (Item Event)). i ∷ f .1) same in
+      let f = stand-first (length s) (itemStep voice s) at (r .rest) (r .stands) (omega arith) item next is in
       let below : item .place < address = omega (arith, placed-at voice s at item next is) in (
         record {
-          rest = f .1;
-          stands = subst (λ (n : ℕ). Standing voice s n (f .1)) on (st .2);
+          rest = f .0;
+          stands = f .2;
           within = a .1;
           there =
-              sym (passed-by item (f .1) address (length s) below)
-              ∙ ap (λ (items : Items). isThere items (length s) address) (sym rests)
+              sym (passed-by item (f .0) address (length s) below)
+              ∙ ap (λ (items : Items). isThere items (length s) address) (sym (f .1))
               ∙ r .there;
         },
-        rests,
+        f .1,
       )
 
-  module _ (i : ReadItem) (before : at < address) (here : at < length s) (is : i ≡ itemAt voice s at) where
-    stands : (j : ReadItem) → i ≡ j → itemStep voice s at ≡ itemMet at j
-    unfolding itemStep
-    stands j e = ap (itemMet at) (sym is ∙ e)
+  module _ (i : ReadItem) (is : i ≡ itemAt voice s at) where
+    pub reach-reads : at < address → (duration next : ℕ) (event : Event) → i ≡ Timed duration event next → Reaching voice s address next
+    reach-reads before duration next event e = reach-steps _ next (timed-met voice s at i is duration next event e) before .0
 
-    pub reach-reads : (duration next : ℕ) (event : Event) → i ≡ Timed duration event next → Reaching voice s address next
-    unfolding itemMet
-    reach-reads duration next event e = reach-steps _ next (stands (Timed duration event next) e) before .0
-
-    pub reach-marks : (next : ℕ) → i ≡ EndMark next → Reaching voice s address next
-    unfolding itemMet
-    reach-marks next e = reach-steps _ next (stands (EndMark next) e) before .0
-
-    pub reach-nears : (duration next : ℕ) (event : Event) → i ≡ Timed duration event next → length s - next < length s - at
-    unfolding itemMet
-    reach-nears duration next event e = let a = stands-ahead voice s at _ next (stands (Timed duration event next) e) in omega arith
-
-    pub reach-nears-mark : (next : ℕ) → i ≡ EndMark next → length s - next < length s - at
-    unfolding itemMet
-    reach-nears-mark next e = let a = stands-ahead voice s at _ next (stands (EndMark next) e) in omega arith
+    pub reach-marks : at < address → (next : ℕ) → i ≡ EndMark next → Reaching voice s address next
+    reach-marks before next e = reach-steps _ next (mark-met voice s at i is next e) before .0
 
     -- nothing that stands in a body that reads is refused
-    not-refused : (number place : ℕ) → i ≡ Refused number place → ⊥
-    unfolding itemMet
-    not-refused number place e =
-        let f = first-item here in
-        let st : Standing voice s at (f .0 ∷ f .1) = subst (Standing voice s at) (f .2) (r .stands) in
-        let both : met (f .0) (st .0) ≡ stuck number place = sym (st .1) ∙ stands (Refused number place) e in
-        let z : _≡_ {A = ℕ} 0 1 = cc in
-        omega arith
+    not-refused : at < length s → (number place : ℕ) → i ≡ Refused number place → ⊥
+    not-refused here number place e =
+        stand-never-stuck (length s) (itemStep voice s) at (r .rest) (r .stands) here number place (refused-stuck voice s at i is number place e)
 
-    pub reach-never : (number place : ℕ) → i ≡ Refused number place → false ≡ isAddress (itemsOf voice s) (length s) address
-    reach-never number place e = absurd (not-refused number place e)
+    pub reach-never : at < length s → (number place : ℕ) → i ≡ Refused number place → false ≡ isAddress (itemsOf voice s) (length s) address
+    reach-never here number place e = absurd (not-refused here number place e)
 
 -- the walk may start at an address that is not past the one that is asked for
 
@@ -255,7 +244,7 @@ module _ (voice : Voice) (s : List ℕ) (from address : ℕ) (order : from ≤ a
   reach-starts h known =
       walks-to (itemsOf voice s) 0 (body-stands voice s (itemsOf voice s) (reads-to-items voice s h)) (omega arith) (omega arith) known refl
 
-pub ruleset reaching = (reach-starts, reach-ends, reach-runs-out, reach-reads, reach-marks, reach-nears, reach-nears-mark, reach-never)
+pub ruleset reaching = (reach-starts, reach-ends, reach-runs-out, reach-reads, reach-marks, timed-nears, mark-nears, reach-never)
 
 -- AND ITS TIME
 
@@ -296,20 +285,18 @@ module _ (voice : Voice) (s : List ℕ) (address at time : ℕ) (r : Seeking voi
             ∙ r .times;
       }
 
-  module _ (i : ReadItem) (before : at < address) (here : at < length s) (is : i ≡ itemAt voice s at) where
-    pub seek-reads : (duration next : ℕ) (event : Event) → i ≡ Timed duration event next → duration < 4294967296
+  module _ (i : ReadItem) (is : i ≡ itemAt voice s at) where
+    pub seek-reads : at < address → (duration next : ℕ) (event : Event) → i ≡ Timed duration event next → duration < 4294967296
         → Seeking voice s address next (time + duration)
-    unfolding durationOf itemMet
-    seek-reads duration next event e small =
-        stepped (timed duration event) next (stands voice s address at (r .walk) i before here is (Timed duration event next) e) before small
+    unfolding durationOf
+    seek-reads before duration next event e small = stepped (timed duration event) next (timed-met voice s at i is duration next event e) before small
 
-    pub seek-marks : (next : ℕ) → i ≡ EndMark next → Seeking voice s address next time
-    unfolding durationOf itemMet
-    seek-marks next e =
-        subst (Seeking voice s address next) (add-zero time)
-        (stepped endMark next (stands voice s address at (r .walk) i before here is (EndMark next) e) before (omega arith))
+    pub seek-marks : at < address → (next : ℕ) → i ≡ EndMark next → Seeking voice s address next time
+    unfolding durationOf
+    seek-marks before next e =
+        subst (Seeking voice s address next) (add-zero time) (stepped endMark next (mark-met voice s at i is next e) before (omega arith))
 
-    pub seek-never : (number place : ℕ) → i ≡ Refused number place → Nowhere ≡ addressAnswer (itemsOf voice s) (length s) address
-    seek-never number place e = absurd (not-refused voice s address at (r .walk) i before here is number place e)
+    pub seek-never : at < length s → (number place : ℕ) → i ≡ Refused number place → Nowhere ≡ addressAnswer (itemsOf voice s) (length s) address
+    seek-never here number place e = absurd (not-refused voice s address at (r .walk) i is here number place e)
 
-pub ruleset seeking = (seek-starts, seek-finds, seek-passes, seek-runs-out, seek-reads, seek-marks, reach-nears, reach-nears-mark, seek-never)
+pub ruleset seeking = (seek-starts, seek-finds, seek-passes, seek-runs-out, seek-reads, seek-marks, timed-nears, mark-nears, seek-never)

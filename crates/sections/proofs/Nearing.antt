@@ -1,6 +1,6 @@
 -- The walk to an address: the invariant of `walk_to`'s loop, and what each way out of it and each turn makes of it.
 use Prim.Native.Nat.{ℕ, _+_, _-_, _*_, _<_, _≤_}
-use mathlib.Core.Bool.{true, false, false≢true}
+use mathlib.Core.Bool.{true, false≢true}
 use mathlib.Core.List.{List, [], _∷_}
 use mathlib.Core.Path.{_≡_, refl, sym, _∙_, ap, subst}
 use lib.ListN.{length}
@@ -9,7 +9,7 @@ use native.Mathlib.Decide.{decLt}
 use native.Mathlib.Omega.{arith}
 use borrow.Author.Tests.{eqb-true}
 use Rattle.model.specs.Words.{if_then_else_, _or_, _≡?_, any, Placed, Step.met, Step.stuck}
-use Rattle.model.specs.Item.{Item, Item.timed, Item.endMark, durationOf, itemAt, itemMet, itemStep, bodyOf, isFine, itemsOf}
+use Rattle.model.specs.Item.{Item, Item.timed, Item.endMark, durationOf, itemAt, itemStep, bodyOf, isFine, itemsOf}
 use Rattle.model.specs.Play.{At, withMessage}
 use Rattle.model.specs.Points.{isAddress}
 use Rattle.model.specs.Word.{isMessage}
@@ -19,7 +19,7 @@ use Rattle.model.specs.declared.ReadItem.{ReadItem}
 use Rattle.model.specs.declared.ReadItem.the-variants.{Timed, EndMark, Refused}
 use Rattle.model.specs.declared.Reached.{Reached}
 use Rattle.model.proofs.Tests.{by-test}
-use Rattle.items.proofs.Addresses.{placed-at, stands-ahead, none-there, passed-by}
+use Rattle.items.proofs.Addresses.{placed-at, stands-ahead, timed-met, mark-met, refused-stuck, none-there, passed-by}
 use Rattle.sections.specs.Spans.{Items}
 use Rattle.sections.specs.Reaching.{reachedOf, messagesIn, passedBy, Walked}
 use Rattle.sections.proofs.Places.{stands-within}
@@ -137,10 +137,6 @@ module _ (voice : Voice) (s : List ℕ) where
               absurd (omega (arith, w .stands))
           go (item ∷ rest) w = (item, rest, w)
 
-      stands : (j : ReadItem) → i ≡ j → itemStep voice s (r .at) ≡ itemMet (r .at) j
-      unfolding itemStep
-      stands j e = ap (itemMet (r .at)) (sym read ∙ e)
-
       further : (what : Item Event) (next : ℕ) (z : Reached) → itemStep voice s (r .at) ≡ met (record { place = r .at; what = what }) next
           → durationOf what < 4294967296 → z ≡ passedBy r (durationOf what) (heardIn what) next → Nearing address z × (length s - z .at < length s - r .at)
       further what next z e small q =
@@ -167,9 +163,9 @@ module _ (voice : Voice) (s : List ℕ) where
       module _ (duration next : ℕ) (event : Event) (e : i ≡ Timed duration event next) (small : duration < 4294967296) (heard : ℕ) (z : Reached)
           (said : heard ≡ messagesIn event) (q : z ≡ passedBy r duration heard next) where
         timed-further : Nearing address z × (length s - z .at < length s - r .at)
-        unfolding itemMet durationOf heardIn
+        unfolding durationOf heardIn
         timed-further =
-            further (timed duration event) next z (stands (Timed duration event next) e) small (q ∙ ap (λ (k : ℕ). passedBy r duration k next) said)
+            further (timed duration event) next z (timed-met voice s (r .at) i read duration next event e) small (q ∙ ap (λ (k : ℕ). passedBy r duration k next) said)
 
         pub near-reads : Nearing address z
         near-reads = timed-further .0
@@ -179,8 +175,8 @@ module _ (voice : Voice) (s : List ℕ) where
 
       module _ (next : ℕ) (e : i ≡ EndMark next) (z : Reached) (q : z ≡ passedBy r 0 0 next) where
         mark-further : Nearing address z × (length s - z .at < length s - r .at)
-        unfolding itemMet durationOf heardIn
-        mark-further = further endMark next z (stands (EndMark next) e) (omega arith) q
+        unfolding durationOf heardIn
+        mark-further = further endMark next z (mark-met voice s (r .at) i read next e) (omega arith) q
 
         pub near-marks : Nearing address z
         near-marks = mark-further .0
@@ -191,9 +187,8 @@ module _ (voice : Voice) (s : List ℕ) where
       -- nothing that stands in a body that reads is refused
       module _ (number place : ℕ) (e : i ≡ Refused number place) where
         never : ⊥
-        unfolding itemMet
         never =
-            let both : met (first .0) (first .2 .stands .0) ≡ stuck number place = sym (first .2 .stands .1) ∙ stands (Refused number place) e in
+            let both : met (first .0) (first .2 .stands .0) ≡ stuck number place = sym (first .2 .stands .1) ∙ refused-stuck voice s (r .at) i read number place e in
             let z : _≡_ {A = ℕ} 0 1 = cc in
             omega arith
 
