@@ -22,8 +22,9 @@ use Rattle.model.specs.declared.Shape.{Shape}
 use Rattle.model.specs.declared.Span.{Span}
 use Rattle.writing.specs.Parts.{eventSize}
 use Rattle.writing.proofs.Contents.{event-length}
+use Rattle.items.proofs.Addresses.{timed-nears, mark-nears}
 use Rattle.sections.specs.Spans.{spanRows, Playable}
-use Rattle.sections.proofs.Ahead.{Ahead, Onward, next-rows, message-next, nop-next, mark-next, playable-begins, span-begins, in-time, in-place, none-ahead, timed-nears, timed-late, timed-onward, mark-nears, mark-onward, never-refused}
+use Rattle.sections.proofs.Ahead.{Ahead, Onward, next-rows, message-next, nop-next, mark-next, playable-begins, span-begins, in-time, in-place, none-ahead, timed-late, timed-onward, mark-onward, never-refused}
 use Rattle.flattening.specs.Parts.{gapSize, spanShape, silence, joined, shaped}
 use Rattle.flattening.proofs.Fitting.{read-fits}
 use Rattle.flattening.proofs.Shapes.{outlined, outline-shapes}
@@ -127,12 +128,9 @@ module _ (voice : Voice) (s : List ℕ) (span : Span) where
         pub shape-near : time + duration - span .start ≤ 4294967296
         shape-near = omega (arith, in-time voice s (span .start) next (time + duration) (onward .0))
 
-        pub shape-nears : length s - next < length s - place
-        shape-nears = timed-nears voice s (span .start) place time (r .ahead) duration next event (sym is ∙ e)
-
         pub shape-silent : (b : Bool) → b ≡ isMessage event → b ≡ false → Shaping voice s span outline count next (time + duration)
         shape-silent b q h =
-            silent next (time + duration) (onward .0) (omega (arith, shape-nears)) (omega arith)
+            silent next (time + duration) (onward .0) (omega (arith, timed-nears voice s place i is duration next event e)) (omega arith)
             (nop-next 0 (span .start) count time place (r .ahead .rest) (onward .0 .rest) duration event (onward .1) (sym q ∙ h))
 
         module _ (b : Bool) (q : b ≡ isMessage event) (h : b ≡ true) (more : count ≡ 0 → ⊥) where
@@ -160,7 +158,7 @@ module _ (voice : Voice) (s : List ℕ) (span : Span) where
               let near = in-time voice s (span .start) next (time + duration) (onward .0) in
               record {
                 ahead = onward .0;
-                small = omega (arith, r .small, shape-nears, near, bytes);
+                small = omega (arith, r .small, timed-nears voice s place i is duration next event e, near, bytes);
                 early = omega (arith, last);
                 whole = ap (shaped (span .lasts)) (sym whole-rows) ∙ r .whole;
               }
@@ -169,17 +167,14 @@ module _ (voice : Voice) (s : List ℕ) (span : Span) where
         marked : Onward voice s (span .start) place time (r .ahead) endMark next time
         marked = mark-onward voice s (span .start) place time (r .ahead) next (sym is ∙ e)
 
-        pub shape-nears-mark : length s - next < length s - place
-        shape-nears-mark = mark-nears voice s (span .start) place time (r .ahead) next (sym is ∙ e)
-
         pub shape-marks : Shaping voice s span outline count next time
         shape-marks =
-            silent next time (marked .0) (omega (arith, shape-nears-mark)) (omega arith)
+            silent next time (marked .0) (omega (arith, mark-nears voice s place i is next e)) (omega arith)
             (mark-next 0 (span .start) count time place (r .ahead .rest) (marked .0 .rest) (marked .1))
 
       pub shape-never : (shape : Shape) (number there : ℕ) → place < length s → i ≡ Refused number there → shape ≡ spanShape s (itemsOf voice s) span
       shape-never shape number there inside e = absurd (never-refused voice s (span .start) place time (r .ahead) number there inside (sym is ∙ e))
 
-pub ruleset shapes = (shape-late, shape-few, shape-grows, shape-near, shape-nears, shape-silent, shape-again, shape-nears-mark, shape-marks)
+pub ruleset shapes = (shape-late, shape-few, shape-grows, shape-near, timed-nears, shape-silent, shape-again, mark-nears, shape-marks)
 
 pub ruleset shape-known-ends = (shape-full, shape-ends, shape-never)

@@ -20,8 +20,9 @@ use Rattle.model.specs.declared.ReadItem.{ReadItem}
 use Rattle.model.specs.declared.ReadItem.the-variants.{Timed, EndMark, Refused}
 use Rattle.model.specs.declared.Span.{Span}
 use Rattle.model.proofs.Stores.{sets-append}
+use Rattle.items.proofs.Addresses.{timed-nears, mark-nears}
 use Rattle.sections.specs.Spans.{spanRows, Playable}
-use Rattle.sections.proofs.Ahead.{Ahead, Onward, next-rows, message-next, nop-next, mark-next, playable-begins, span-begins, none-ahead, timed-nears, timed-late, timed-onward, mark-nears, mark-onward, never-refused}
+use Rattle.sections.proofs.Ahead.{Ahead, Onward, next-rows, message-next, nop-next, mark-next, playable-begins, span-begins, none-ahead, timed-late, timed-onward, mark-onward, never-refused}
 use Rattle.flattening.specs.Parts.{plainPart, lastStep, told, partBytes, partLast, messageBytes}
 use Rattle.flattening.proofs.Joining.{part-first}
 use Rattle.flattening.proofs.Fitting.{read-fits}
@@ -173,9 +174,6 @@ module _ (voice : Voice) (s : List ℕ) (span : Span) (before past : ℕ) (l : L
         pub tell-gap : last ≤ before + (time + duration - span .start)
         tell-gap = omega (arith, r .early)
 
-        pub tell-nears : length s - next < length s - place
-        tell-nears = timed-nears voice s (span .start) place time (r .ahead) duration next event (sym is ∙ e)
-
         pub tell-silent : (b : Bool) → b ≡ isMessage event → b ≡ false → Telling voice s span before past l at out here last count next (time + duration)
         tell-silent b q h =
             silent next (time + duration) (onward .0) (omega arith)
@@ -223,9 +221,6 @@ module _ (voice : Voice) (s : List ℕ) (span : Span) (before past : ℕ) (l : L
         marked : Onward voice s (span .start) place time (r .ahead) endMark next time
         marked = mark-onward voice s (span .start) place time (r .ahead) next (sym is ∙ e)
 
-        pub tell-nears-mark : length s - next < length s - place
-        tell-nears-mark = mark-nears voice s (span .start) place time (r .ahead) next (sym is ∙ e)
-
         pub tell-marks : Telling voice s span before past l at out here last count next time
         tell-marks =
             silent next time (marked .0) (omega arith)
@@ -244,6 +239,6 @@ module _ (voice : Voice) (s : List ℕ) (span : Span) (before past : ℕ) (l : L
         pub never-out : out ≡ sets l at (partBytes s past (spanRows (itemsOf voice s) span before))
         never-out = absurd never
 
-pub ruleset tells = (tell-fits, tell-late, tell-gap, tell-nears, tell-silent, tell-room, tell-again, tell-nears-mark, tell-marks)
+pub ruleset tells = (tell-fits, tell-late, tell-gap, timed-nears, tell-silent, tell-room, tell-again, mark-nears, tell-marks)
 
 pub ruleset tell-ends = (full-at, full-past, full-out, end-at, end-past, end-out, never-at, never-past, never-out)

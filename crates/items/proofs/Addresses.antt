@@ -7,7 +7,7 @@ use lib.ListN.{length}
 use native.Mathlib.Decide.{decLt}
 use native.Mathlib.Omega.{arith}
 use borrow.Author.Tests.{eq-eqb, ne-eqb, eqb-true, eqb-false, lt-ltb}
-use Rattle.model.specs.Words.{if_then_else_, _or_, _<?_, _≡?_, any, keep, sum, Placed, Checked.fine, Step.met}
+use Rattle.model.specs.Words.{if_then_else_, _or_, _<?_, _≡?_, any, keep, sum, Placed, Checked.fine, Step.met, Step.stuck}
 use Rattle.model.specs.Item.{Item, Item.timed, Item.endMark, durationOf, lasting, itemAt, itemMet, itemStep, bodyOf, isFine, itemsOf}
 use Rattle.model.specs.Points.{isAddress}
 use Rattle.model.specs.declared.Voice.{Voice}
@@ -56,6 +56,28 @@ module _ (voice : Voice) (s : List ℕ) (at : ℕ) (item : Placed (Item Event)) 
   pub stands-far : at + 3 ≤ next
   unfolding itemStep
   stands-far = met-far at (length s) (itemAt voice s at) item next (item-ahead voice s at) e
+
+-- what is read at a place is met there, and ends nearer to the body's end
+module _ (voice : Voice) (s : List ℕ) (at : ℕ) (i : ReadItem) (is : i ≡ itemAt voice s at) where
+  module _ (duration next : ℕ) (event : Event) (e : i ≡ Timed duration event next) where
+    pub timed-met : itemStep voice s at ≡ met (record { place = at; what = timed duration event }) next
+    unfolding itemStep itemMet
+    timed-met = ap (itemMet at) (sym is ∙ e)
+
+    pub timed-nears : length s - next < length s - at
+    timed-nears = omega (arith, stands-ahead voice s at _ next timed-met)
+
+  module _ (next : ℕ) (e : i ≡ EndMark next) where
+    pub mark-met : itemStep voice s at ≡ met (record { place = at; what = endMark }) next
+    unfolding itemStep itemMet
+    mark-met = ap (itemMet at) (sym is ∙ e)
+
+    pub mark-nears : length s - next < length s - at
+    mark-nears = omega (arith, stands-ahead voice s at _ next mark-met)
+
+  pub refused-stuck : (number place : ℕ) → i ≡ Refused number place → itemStep voice s at ≡ stuck number place
+  unfolding itemStep itemMet
+  refused-stuck number place e = ap (itemMet at) (sym is ∙ e)
 
 -- the two halves of what is asked of an address, of the items from some place on
 abbrev pub isThere : Items → ℕ → ℕ → Bool

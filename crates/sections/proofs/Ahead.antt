@@ -8,18 +8,19 @@ use lib.ListN.{length, take}
 use native.Mathlib.Nat.{add-zero, zero-add, add-assoc}
 use native.Mathlib.Omega.{arith}
 use borrow.Author.Tests.{ltb-false}
-use Rattle.model.specs.Words.{if_then_else_, _<?_, sum, Placed, Step.met, Step.stuck}
+use Rattle.model.specs.Words.{if_then_else_, _<?_, sum, Step.met}
 use Rattle.model.specs.Bytes.{_!_}
-use Rattle.model.specs.Item.{Item, Item.timed, Item.endMark, durationOf, lasting, itemAt, itemMet, itemStep, bodyOf, isFine, itemsOf}
+use Rattle.model.specs.Item.{Item, Item.timed, Item.endMark, durationOf, lasting, itemAt, itemStep, bodyOf, isFine, itemsOf}
 use Rattle.model.specs.Play.{At, onsetsAfter, withMessage, messagesOf}
 use Rattle.model.specs.Word.{isMessage}
 use Rattle.model.specs.declared.Voice.{Voice}
 use Rattle.model.specs.declared.Event.{Event}
-use Rattle.model.specs.declared.ReadItem.{ReadItem}
 use Rattle.model.specs.declared.ReadItem.the-variants.{Timed, EndMark, Refused}
 use Rattle.model.specs.declared.Span.{Span}
 use Rattle.model.proofs.Tests.{by-test}
-use Rattle.items.proofs.Addresses.{stands-ahead, reads-to-items}
+use Rattle.model.proofs.Walks.{stand-first, stand-never-stuck, stand-over}
+use Rattle.items.proofs.Ahead.{item-goes}
+use Rattle.items.proofs.Addresses.{stands-ahead, timed-met, mark-met, refused-stuck, reads-to-items}
 use Rattle.items.proofs.Standing.{body-stands}
 use Rattle.sections.specs.Spans.{Items, messagesAfter, since, itemsFrom, spanOf, counted, spanRows, Begun, Playable}
 use Rattle.sections.proofs.Places.{Standing, stands-within, first-stands, from-since, item-short, past-small}
@@ -129,11 +130,7 @@ module _ (voice : Voice) (s : List ℕ) (start place time : ℕ) (a : Ahead voic
 
   -- nothing is ahead at the end
   rests-none : length s ≤ place → a .rest ≡ []
-  rests-none past = go (a .rest) (a .stands)
-    where
-      go : (items : Items) → Standing voice s place items → items ≡ []
-      go [] st = refl
-      go (item ∷ items) st = let h = stands-ahead voice s place item (st .0) (st .1) in absurd (omega arith)
+  rests-none past = stand-over (length s) (itemStep voice s) place (a .rest) (a .stands) (item-goes voice s place) past
 
   pub none-ahead : (before count : ℕ) → length s ≤ place → next-rows before start count time (a .rest) ≡ []
   none-ahead before count past = ap (next-rows before start count time) (rests-none past) ∙ none-left before start count time
@@ -151,20 +148,8 @@ module _ (voice : Voice) (s : List ℕ) (start place time : ℕ) (a : Ahead voic
     nears : (place < next) × (next ≤ length s)
     nears = stands-ahead voice s place _ next e
 
-    abbrev Opened : Type 0
-    Opened = (items : Items) × (a .rest ≡ record { place = place; what = what } ∷ items) × Standing voice s next items
-
-    opened : Opened
-    opened = go (a .rest) refl
-      where
-        go : (items : Items) → a .rest ≡ items → Opened
-        go [] q = let past : place ≡ length s = subst (Standing voice s place) q (a .stands) in absurd (omega (arith, nears))
-        go (first ∷ items) q =
-            let st : Standing voice s place (first ∷ items) = subst (Standing voice s place) q (a .stands) in
-            let both : met first (st .0) ≡ met (record { place = place; what = what }) next = sym (st .1) ∙ e in
-            let same : first ≡ record { place = place; what = what } = cc in
-            let on : st .0 ≡ next = cc in
-            (items, q ∙ ap (λ (x : Placed (Item Event)). x ∷ items) same, subst (λ (n : ℕ). Standing voice s n items) on (st .2))
+    opened : (items : Items) × (a .rest ≡ record { place = place; what = what } ∷ items) × Standing voice s next items
+    opened = stand-first (length s) (itemStep voice s) place (a .rest) (a .stands) (omega (arith, nears)) _ next e
 
     not-before : start ≤ time + durationOf what
     not-before = subst (NotBefore start time) (opened .1) (a .late)
@@ -189,17 +174,9 @@ module _ (voice : Voice) (s : List ℕ) (start place time : ℕ) (a : Ahead voic
           opened .1,
         )
 
-  read-here : (j : ReadItem) → itemAt voice s place ≡ j → itemStep voice s place ≡ itemMet place j
-  unfolding itemStep
-  read-here j e = ap (itemMet place) e
-
   module _ (duration next : ℕ) (event : Event) (e : itemAt voice s place ≡ Timed duration event next) where
     is-timed : itemStep voice s place ≡ met (record { place = place; what = timed duration event }) next
-    unfolding itemMet
-    is-timed = read-here (Timed duration event next) e
-
-    pub timed-nears : length s - next < length s - place
-    timed-nears = omega (arith, nears (timed duration event) next is-timed)
+    is-timed = timed-met voice s place (itemAt voice s place) refl duration next event e
 
     pub timed-late : start ≤ time + duration
     unfolding durationOf
@@ -211,11 +188,7 @@ module _ (voice : Voice) (s : List ℕ) (start place time : ℕ) (a : Ahead voic
 
   module _ (next : ℕ) (e : itemAt voice s place ≡ EndMark next) where
     is-mark : itemStep voice s place ≡ met (record { place = place; what = endMark }) next
-    unfolding itemMet
-    is-mark = read-here (EndMark next) e
-
-    pub mark-nears : length s - next < length s - place
-    mark-nears = omega (arith, nears endMark next is-mark)
+    is-mark = mark-met voice s place (itemAt voice s place) refl next e
 
     pub mark-late : start ≤ time + 0
     unfolding durationOf
@@ -227,12 +200,6 @@ module _ (voice : Voice) (s : List ℕ) (start place time : ℕ) (a : Ahead voic
 
   -- nothing that stands in a body that reads is refused
   pub never-refused : (number there : ℕ) → place < length s → itemAt voice s place ≡ Refused number there → ⊥
-  unfolding itemMet
-  never-refused number there here e = go (a .rest) (a .stands)
-    where
-      go : (items : Items) → Standing voice s place items → ⊥
-      go [] st = omega arith
-      go (first ∷ items) st =
-          let both : met first (st .0) ≡ stuck number there = sym (st .1) ∙ read-here (Refused number there) e in
-          let z : _≡_ {A = ℕ} 0 1 = cc in
-          omega arith
+  never-refused number there here e =
+      stand-never-stuck (length s) (itemStep voice s) place (a .rest) (a .stands) here number there
+      (refused-stuck voice s place (itemAt voice s place) refl number there e)

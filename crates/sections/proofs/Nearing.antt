@@ -1,6 +1,6 @@
 -- The walk to an address: the invariant of `walk_to`'s loop, and what each way out of it and each turn makes of it.
 use Prim.Native.Nat.{ℕ, _+_, _-_, _*_, _<_, _≤_}
-use mathlib.Core.Bool.{true, false, false≢true}
+use mathlib.Core.Bool.{true, false≢true}
 use mathlib.Core.List.{List, [], _∷_}
 use mathlib.Core.Path.{_≡_, refl, sym, _∙_, ap, subst}
 use lib.ListN.{length}
@@ -9,7 +9,7 @@ use native.Mathlib.Decide.{decLt}
 use native.Mathlib.Omega.{arith}
 use borrow.Author.Tests.{eq-eqb, ne-eqb, eqb-true, eqb-false}
 use Rattle.model.specs.Words.{if_then_else_, _or_, _≡?_, any, Placed, Step.met, Step.stuck}
-use Rattle.model.specs.Item.{Item, Item.timed, Item.endMark, durationOf, itemAt, itemMet, itemStep, bodyOf, isFine, itemsOf}
+use Rattle.model.specs.Item.{Item, Item.timed, Item.endMark, durationOf, itemAt, itemStep, bodyOf, isFine, itemsOf}
 use Rattle.model.specs.Play.{At, withMessage}
 use Rattle.model.specs.Points.{isAddress}
 use Rattle.model.specs.Word.{isMessage, wordOf, InWord}
@@ -19,7 +19,7 @@ use Rattle.model.specs.declared.ReadItem.{ReadItem}
 use Rattle.model.specs.declared.ReadItem.the-variants.{Timed, EndMark, Refused}
 use Rattle.model.specs.declared.Reached.{Reached}
 use Rattle.model.proofs.Tests.{by-test}
-use Rattle.items.proofs.Addresses.{placed-at, stands-ahead, none-there, passed-by}
+use Rattle.items.proofs.Addresses.{placed-at, stands-ahead, timed-met, mark-met, refused-stuck, none-there, passed-by}
 use Rattle.sections.specs.Spans.{Items}
 use Rattle.sections.specs.Reaching.{reachedOf, passedBy, Walked}
 use Rattle.sections.specs.Taking.{AllBytes, ItemAgrees}
@@ -211,19 +211,19 @@ module _ (voice : Voice) (s : List ℕ) where
       -- an item that is taken as plain numbers
       module _ (taken : Taken) (agrees : ItemAgrees taken (itemAt voice s (r .at))) (z : Reached) where
         took : z ≡ passedBy r (taken .duration) (heardBy (taken .word)) (taken .next) → Nearing address z × (length s - z .at < length s - r .at)
-        unfolding itemStep itemMet durationOf heardIn ItemAgrees if_then_else_
+        unfolding durationOf heardIn ItemAgrees if_then_else_
         took q = go (itemAt voice s (r .at)) refl agrees (item-in-word s (n .bytes) (n .body) voice (r .at))
           where
             go : (j : ReadItem) → itemAt voice s (r .at) ≡ j → ItemAgrees taken j → ItemInWord j → Nearing address z × (length s - z .at < length s - r .at)
             go (Timed duration event next) e a fits =
-                further (timed duration event) next z (ap (itemMet (r .at)) e) (omega (arith, fits .0))
+                further (timed duration event) next z (timed-met voice s (r .at) _ refl duration next event e) (omega (arith, fits .0))
                 (q ∙ ap (λ (t : Taken). passedBy r (t .duration) (heardBy (t .word)) (t .next)) a
                 ∙ ap (λ (heard : ℕ). passedBy r duration heard next) (word-heard event (fits .1)))
             go (EndMark next) e a fits =
-                further endMark next z (ap (itemMet (r .at)) e) (omega arith)
+                further endMark next z (mark-met voice s (r .at) _ refl next e) (omega arith)
                 (q ∙ ap (λ (t : Taken). passedBy r (t .duration) (heardBy (t .word)) (t .next)) a)
             go (Refused number place) e a fits =
-                let both : met (first .0) (first .2 .stands .0) ≡ stuck number place = sym (first .2 .stands .1) ∙ ap (itemMet (r .at)) e in
+                let both : met (first .0) (first .2 .stands .0) ≡ stuck number place = sym (first .2 .stands .1) ∙ refused-stuck voice s (r .at) _ refl number place e in
                 let zero : _≡_ {A = ℕ} 0 1 = cc in
                 absurd (omega arith)
 

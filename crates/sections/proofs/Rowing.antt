@@ -18,12 +18,13 @@ use Rattle.model.specs.declared.Event.{Event}
 use Rattle.model.specs.declared.ReadItem.{ReadItem}
 use Rattle.model.specs.declared.ReadItem.the-variants.{Timed, EndMark, Refused}
 use Rattle.model.specs.declared.Span.{Span}
+use Rattle.items.proofs.Addresses.{timed-nears, mark-nears}
 use Rattle.sections.specs.Spans.{Items, spanRows, stepsOf, wordsOf, Begun, Ended}
 use Rattle.sections.specs.Taking.{AllBytes, takenAs, ItemAgrees}
 use Rattle.sections.specs.declared.Taken.{Taken}
 use Rattle.sections.proofs.InWords.{ItemInWord, item-in-word}
 use Rattle.sections.proofs.Taking.{word-none, word-some}
-use Rattle.sections.proofs.Ahead.{Ahead, Onward, next-rows, message-next, nop-next, mark-next, playable-begins, span-begins, none-ahead, all-past, timed-nears, timed-late, timed-onward, mark-nears, mark-late, mark-onward, never-refused}
+use Rattle.sections.proofs.Ahead.{Ahead, Onward, next-rows, message-next, nop-next, mark-next, playable-begins, span-begins, none-ahead, all-past, timed-late, timed-onward, mark-late, mark-onward, never-refused}
 
 -- a span has no more rows than it says
 pub rows-room : (items : Items) (span : Span) (before at room : ℕ) → at + span .messages ≤ room → at + length (spanRows items span before) ≤ room
@@ -193,8 +194,8 @@ module _ (voice : Voice) (s : List ℕ) (span : Span) (before : ℕ) (l m : List
     pub took-nears : length s - taken .next < length s - place
     took-nears =
         by-cases (λ taken. length s - taken .next < length s - place)
-        (λ duration next event e. timed-nears voice s (span .start) place time (r .walk) duration next event e)
-        (λ next e. mark-nears voice s (span .start) place time (r .walk) next e)
+        (λ duration next event e. timed-nears voice s place (itemAt voice s place) refl duration next event e)
+        (λ next e. mark-nears voice s place (itemAt voice s place) refl next e)
 
     pub took-not-before : span .start ≤ time + taken .duration
     took-not-before =

@@ -16,8 +16,7 @@ use Rattle.model.specs.Track.{pointWidth}
 use Rattle.model.specs.declared.ReadEntry.{ReadEntry}
 use Rattle.model.specs.declared.ReadEntry.the-variants.{Start, Stop, Phrase, Order, Refused}
 use Rattle.model.proofs.Tests.{by-test, if-true, if-false, first-true}
-use Rattle.model.proofs.Walks.{GoesOn, Stand, Pass, stand-iff}
-use Rattle.model.proofs.Walks.{fine-found}
+use Rattle.model.proofs.Walks.{GoesOn, Stand, Pass, stand-first, stand-never-stuck, stand-over, stand-iff, fine-found}
 use Rattle.seek.specs.Next.{isRefused, endOf, nextAt, isKnown, KnownAt}
 use Rattle.seek.proofs.LastList.{known-room}
 use Rattle.seek.proofs.Ordering.{in-order-twice, in-order-late}
@@ -52,13 +51,7 @@ standing-starts phrases s h =
 
 module _ (phrases : Bool) (s : List ℕ) (at : ℕ) (before rest : Entries) (st : Standing phrases s at before rest) where
   standing-ends : length s ≤ at → rest ≡ []
-  standing-ends past = go rest (st .stands)
-    where
-      go : (entries : Entries) → Stand (length s) (entryStep (pointWidth phrases) s) at entries → entries ≡ []
-      go [] d = refl
-      go (entry ∷ more) d =
-          let g = subst (GoesOn (length s) at) (d .1) (entry-goes (pointWidth phrases) s at) in
-          absurd (omega arith)
+  standing-ends past = stand-over (length s) (entryStep (pointWidth phrases) s) at rest (st .stands) (entry-goes (pointWidth phrases) s at) past
 
 -- the entry read at a place is the first of those left
 record Turn (phrases : Bool) (s : List ℕ) (at : ℕ) (before rest : List (Placed Entry)) (entry : ReadEntry) : Type 0 where
@@ -73,35 +66,26 @@ module _ (phrases : Bool) (s : List ℕ) (at : ℕ) (before : Entries) (entry : 
   steps : entryStep (pointWidth phrases) s at ≡ stepOf s at entry
   steps = sym (next-steps (pointWidth phrases) s at) ∙ ap (stepOf s at) (sym is)
 
-  turned : (first : Placed Entry) (more : Entries) → Standing phrases s at before (first ∷ more) → (refused : Bool) → isRefused entry ≡ refused
-      → Turn phrases s at before (first ∷ more) entry
-  unfolding stepOf
-  turned first more st true h =
-      let q = sym (st .stands .1) ∙ steps ∙ if-true _ _ _ h in
-      let z : _≡_ {A = ℕ} 0 1 = cc in
-      absurd (omega arith)
-  turned first more st false h =
-      let q = sym (st .stands .1) ∙ steps ∙ if-false _ _ _ h in
-      let same : first ≡ placed s at entry = cc in
-      let ends : st .stands .0 ≡ endOf entry = cc in
-      let g = subst (GoesOn (length s) at) (steps ∙ if-false _ _ _ h) (entry-goes (pointWidth phrases) s at) in
-      record {
-        more = more;
-        splits = ap (λ (e : Placed Entry). e ∷ more) same;
-        stand =
-            record {
-              stands = subst (λ (n : ℕ). Stand (length s) (entryStep (pointWidth phrases) s) n more) ends (st .stands .2);
-              passes = subst (λ (e : Placed Entry). Pass inOrder (e ∷ before) more) same (st .passes .1);
-              within = g .1;
-            };
-        whole = h;
-        ahead = subst (EntryAhead at (length s)) (sym is) (next-ahead (pointWidth phrases) s at);
-        nears = omega arith;
-      }
-
   standing-turn : (rest : Entries) → Standing phrases s at before rest → at < length s → Turn phrases s at before rest entry
-  standing-turn [] st here = absurd (omega (arith, st .stands))
-  standing-turn (first ∷ more) st here = turned first more st (isRefused entry) refl
+  unfolding stepOf
+  standing-turn rest st here = go (isRefused entry) refl
+    where
+      go : (refused : Bool) → isRefused entry ≡ refused → Turn phrases s at before rest entry
+      go true h =
+          absurd (stand-never-stuck (length s) (entryStep (pointWidth phrases) s) at rest (st .stands) here _ _ (steps ∙ if-true _ _ _ h))
+      go false h =
+          let e = steps ∙ if-false _ _ _ h in
+          let f = stand-first (length s) (entryStep (pointWidth phrases) s) at rest (st .stands) here (placed s at entry) (endOf entry) e in
+          let g = subst (GoesOn (length s) at) e (entry-goes (pointWidth phrases) s at) in
+          let p : Pass inOrder before (placed s at entry ∷ f .0) = subst (Pass inOrder before) (f .1) (st .passes) in
+          record {
+            more = f .0;
+            splits = f .1;
+            stand = record { stands = f .2; passes = p .1; within = g .1 };
+            whole = h;
+            ahead = subst (EntryAhead at (length s)) (sym is) (next-ahead (pointWidth phrases) s at);
+            nears = omega arith;
+          }
 
 -- NO TAG COMES TWICE
 
@@ -231,11 +215,11 @@ walk-all P phrases s none-left one-more h = go (allEntries phrases s) 0 [] (stan
     go [] at before st = none-left
     go (first ∷ rest) at before st =
         let entry = nextAt (pointWidth phrases) s at in
-        let t = turned phrases s at before entry refl first rest st (isRefused entry) refl in
+        let on = subst (GoesOn (length s) at) (st .stands .1) (entry-goes (pointWidth phrases) s at) in
+        let t = standing-turn phrases s at before entry refl (first ∷ rest) st (omega arith) in
         let same : first ≡ placed s at entry = cc (t .splits) in
         let left : t .more ≡ rest = cc (t .splits) in
         let last = subst (Without (tag (entryOf s at entry))) left (no-more phrases s (endOf entry) (placed s at entry) before (t .more) (t .stand)) in
-        let on = subst (GoesOn (length s) at) (st .stands .1) (entry-goes (pointWidth phrases) s at) in
         let after : Standing phrases s (st .stands .0) (first ∷ before) rest = record { stands = st .stands .2; passes = st .passes .1; within = on .1 } in
         subst (λ (e : Placed Entry). P (e ∷ rest)) (sym same)
         (one-more at entry rest (record { whole = t .whole; ahead = t .ahead; last = last }) (go rest (st .stands .0) (first ∷ before) after))
