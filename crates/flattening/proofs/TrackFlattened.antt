@@ -21,13 +21,12 @@ use Rattle.model.specs.Answer.{flattenAnswer, flattenRoom}
 use Rattle.model.specs.declared.Voice.{Voice}
 use Rattle.model.specs.declared.Event.{Event}
 use Rattle.model.specs.declared.Span.{Span}
-use Rattle.model.specs.declared.Plan.{Plan}
 use Rattle.model.specs.declared.FlattenAnswer.{FlattenAnswer}
 use Rattle.model.specs.declared.FlattenAnswer.the-variants as flatten
 use Rattle.sections.specs.Spans.{Items, onsets, spanOf, spanRows, Playable, Small, Rising}
 use Rattle.sections.proofs.Stretches.{span-sounds}
 use Rattle.sections.proofs.Tunes.{stream-section-rises}
-use Rattle.playing.specs.Performing.{entriesSaid, Ready, spanAt, letterSection, letterSpan, AllPlayable, AllShort, lastsTogether, rowsTogether, Planned, AllRise}
+use Rattle.playing.specs.Performing.{entriesSaid, Ready, spanAt, letterSection, letterSpan, AllPlayable, AllShort, lastsTogether, rowsTogether, Found, AllRise}
 use Rattle.playing.proofs.Together.{letters-playable, letters-last, letters-sound, span-rises, letters-rise}
 use Rattle.flattening.specs.Parts.{told}
 use Rattle.flattening.specs.Orders.{orderBytes, fitted}
@@ -61,33 +60,33 @@ module _ (voice : Voice) (header : ℕ) (body seek room : List ℕ) where
 
   -- PHRASES, by the plan of the letters
   module _ (ready : Ready voice true body seek) (letters : List ℕ)
-      (plan : Plan) (planned : Planned (itemsOf voice body) (length body) (entriesSaid true seek) letters plan) where
-    pub phrases-playable : AllPlayable (itemsOf voice body) (length body) (plan .spans) letters
-    phrases-playable = letters-playable items (length body) (entriesSaid true seek) (plan .spans) letters (planned .spans)
+      (spans : List Span) (found : Found (itemsOf voice body) (length body) (entriesSaid true seek) letters spans) where
+    pub phrases-playable : AllPlayable (itemsOf voice body) (length body) spans letters
+    phrases-playable = letters-playable items (length body) (entriesSaid true seek) spans letters (found .are)
 
-    pub phrases-short : AllShort (plan .spans) letters
-    phrases-short = planned .short
+    pub phrases-short : AllShort spans letters
+    phrases-short = found .short
 
-    pub phrases-rise : AllRise (itemsOf voice body) (plan .spans) letters
-    phrases-rise = letters-rise voice body (ready .reads) (entriesSaid true seek) (plan .spans) letters (planned .spans)
+    pub phrases-rise : AllRise (itemsOf voice body) spans letters
+    phrases-rise = letters-rise voice body (ready .reads) (entriesSaid true seek) spans letters (found .are)
 
     module _ (order : orderOf true (itemsOf voice body) (entriesSaid true seek) ≡ some (map (letterSection (itemsOf voice body) (entriesSaid true seek)) letters)) where
-      phrases-are : fitted header (length room) (orderBytes body items (plan .spans) 0 0 letters) ≡ bodiesFlattened voice true header (length room) body seek
+      phrases-are : fitted header (length room) (orderBytes body items spans 0 0 letters) ≡ bodiesFlattened voice true header (length room) body seek
       unfolding bodiesFlattened flattened
       phrases-are =
           ap (fitted header (length room))
-          (order-plain body items (plan .spans) letters (map (letterSection items (entriesSaid true seek)) letters)
-          (letters-sound voice body (ready .reads) (entriesSaid true seek) (plan .spans) 0 letters (planned .spans))
-          (letters-last items (length body) (entriesSaid true seek) (plan .spans) letters (planned .spans)))
+          (order-plain body items spans letters (map (letterSection items (entriesSaid true seek)) letters)
+          (letters-sound voice body (ready .reads) (entriesSaid true seek) spans 0 letters (found .are))
+          (letters-last items (length body) (entriesSaid true seek) spans letters (found .are)))
           ∙ sym (rw order refl)
 
       pub phrases-answer : (r : FlattenAnswer)
-          → r ≡ flattenAnswer (fitted header (length room) (orderBytes body (itemsOf voice body) (plan .spans) 0 0 letters))
+          → r ≡ flattenAnswer (fitted header (length room) (orderBytes body (itemsOf voice body) spans 0 0 letters))
           → r ≡ flattenAnswer (bodiesFlattened voice true header (length room) body seek)
       phrases-answer r e = e ∙ ap flattenAnswer phrases-are
 
       pub phrases-room : (m : List ℕ)
-          → m ≡ flattenRoom room (fitted header (length room) (orderBytes body (itemsOf voice body) (plan .spans) 0 0 letters))
+          → m ≡ flattenRoom room (fitted header (length room) (orderBytes body (itemsOf voice body) spans 0 0 letters))
           → m ≡ flattenRoom room (bodiesFlattened voice true header (length room) body seek)
       phrases-room m e = e ∙ ap (flattenRoom room) phrases-are
 

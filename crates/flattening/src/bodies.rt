@@ -46,8 +46,7 @@ fn flatten_letters(
     ensures { λ r. ⌜ r ≡ flattenAnswer (bodiesFlattened voice true header (length (now (room .entry))) (now (body .entry)) (now (seek .entry))) ⌝ }
     ensures { λ _. ⌜ now (room .exit) ≡ flattenRoom (now (room .entry)) (bodiesFlattened voice true header (length (now (room .entry))) (now (body .entry)) (now (seek .entry))) ⌝ }
 {
-    let plan = playing::plan_letters(voice, body, seek, letters);
-    let spans = plan.spans;
+    let spans = playing::find_spans(voice, body, seek, letters);
     flatten_order(voice, header, body, spans, letters, room)
 }
 

@@ -26,6 +26,7 @@ use Rattle.model.specs.declared.Extent.{Extent}
 use Rattle.model.specs.declared.OpenedTrack.{OpenedTrack}
 use Rattle.model.specs.declared.OpenedTrack.the-variants as opened
 use Rattle.sections.specs.Spans.{Items, spanOf, spanRows, Rising, Playable}
+use Rattle.sections.specs.Taking.{AllBytes}
 
 -- the entries of a seek body; a track without a seek chunk has none
 unfoldable pub entriesSaid : Bool → List ℕ → List (Placed Entry)
@@ -118,7 +119,10 @@ AllRise items spans letters =
     (i : ℕ) → i < length letters → (before : ℕ)
     → Rising before (before + spanAt spans (letters ! i) .lasts) (spanRows items (spanAt spans (letters ! i)) before)
 
--- no span lasts longer than a body can
+-- no span plays more messages, or lasts longer, than a body can
+abbrev pub AllFew : List Span → List ℕ → Type 0
+AllFew spans letters = (i : ℕ) → i < length letters → spanAt spans (letters ! i) .messages ≤ 65536
+
 abbrev pub AllShort : List Span → List ℕ → Type 0
 AllShort spans letters = (i : ℕ) → i < length letters → spanAt spans (letters ! i) .lasts ≤ 1082064896
 
@@ -130,6 +134,19 @@ messagesTogether spans (letter ∷ letters) = spanAt spans letter .messages + me
 unfoldable pub lastsTogether : List Span → List ℕ → ℕ
 lastsTogether spans [] = 0
 lastsTogether spans (letter ∷ letters) = spanAt spans letter .lasts + lastsTogether spans letters
+
+-- the spans of the letters of a list, as they are found
+pub record Found (items : Items) (size : ℕ) (entries : List (Placed Entry)) (letters : List ℕ) (spans : List Span) : Type 0 where
+  pub bytes : AllBytes letters
+  pub are : Spanned items size entries spans letters
+  pub few : AllFew spans letters
+  pub short : AllShort spans letters
+
+-- and what they come to together
+pub record Added (spans : List Span) (letters : List ℕ) (plan : Plan) : Type 0 where
+  pub same : plan .spans ≡ spans
+  pub count : plan .count ≡ messagesTogether spans letters
+  pub end : plan .end ≡ lastsTogether spans letters
 
 pub record Planned (items : Items) (size : ℕ) (entries : List (Placed Entry)) (letters : List ℕ) (plan : Plan) : Type 0 where
   pub spans : Spanned items size entries (plan .spans) letters

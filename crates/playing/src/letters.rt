@@ -9,8 +9,9 @@ ghost use Rattle.model.specs.Words.{isSome};
 ghost use Rattle.model.specs.Item.{isFine, bodyOf, itemsOf};
 ghost use Rattle.model.specs.Seek.{phraseOf};
 ghost use Rattle.sections.specs.Spans.{stepsOf, wordsOf};
-ghost use Rattle.playing.specs.Performing.{Ready, entriesSaid, letterSpan, noSpan, Named, Planned};
-ghost use Rattle.playing.specs.Performing.{AllPlayable, AllRise, messagesTogether, lastsTogether, rowsTogether};
+ghost use Rattle.sections.specs.Taking.{AllBytes};
+ghost use Rattle.playing.specs.Performing.{Ready, entriesSaid, letterSpan, noSpan, Named, Found, Added, Planned};
+ghost use Rattle.playing.specs.Performing.{AllPlayable, AllRise, AllFew, AllShort, messagesTogether, lastsTogether, rowsTogether};
 use model::FoundPhrase;
 use model::Plan;
 use model::Span;
@@ -42,17 +43,15 @@ fn span_of_letter(voice: Voice, body: &[u8], seek: &[u8], letter: u8) -> Span
     }
 }
 
-// The spans of all letters of a list, and what they come to together.
-pub fn plan_letters(voice: Voice, body: &[u8], seek: &[u8], letters: &[u8]) -> Plan
+// The span of each letter that a list names, found where the letter comes first.
+pub fn find_spans(voice: Voice, body: &[u8], seek: &[u8], letters: &[u8]) -> [Span; 256]
     requires { ⌜ Ready voice true (now body) (now seek) ⌝ }
     requires { ⌜ length (now letters) ≤ 65536 ⌝ }
     requires { ⌜ Named (entriesSaid true (now seek)) (now letters) ⌝ }
-    ensures { λ r. ⌜ Planned (itemsOf voice (now (body .entry))) (length (now (body .entry))) (entriesSaid true (now (seek .entry))) (now (letters .entry)) r ⌝ }
+    ensures { λ r. ⌜ Found (itemsOf voice (now (body .entry))) (length (now (body .entry))) (entriesSaid true (now (seek .entry))) (now (letters .entry)) r ⌝ }
 {
     let mut spans = [no_span(); 256];
     let mut known = [false; 256];
-    let mut count: usize = 0;
-    let mut end: u64 = 0;
     let mut i: usize = 0;
     while i < letters.len() {
         let letter = letters[i];
@@ -61,12 +60,39 @@ pub fn plan_letters(voice: Voice, body: &[u8], seek: &[u8], letters: &[u8]) -> P
             spans[slot] = span_of_letter(voice, body, seek, letter);
             known[slot] = true;
         }
-        let span = spans[slot];
+        i += 1;
+    }
+    spans
+}
+
+// The spans of letters, and what they come to together.
+fn add_spans(spans: [Span; 256], letters: &[u8]) -> Plan
+    requires { ⌜ AllBytes (now letters) ⌝ }
+    requires { ⌜ length (now letters) ≤ 65536 ⌝ }
+    requires { ⌜ AllFew spans (now letters) ⌝ }
+    requires { ⌜ AllShort spans (now letters) ⌝ }
+    ensures { λ r. ⌜ Added spans (now (letters .entry)) r ⌝ }
+{
+    let mut count: usize = 0;
+    let mut end: u64 = 0;
+    let mut i: usize = 0;
+    while i < letters.len() {
+        let span = spans[letters[i] as usize];
         count += span.messages;
         end += span.lasts;
         i += 1;
     }
     Plan { spans, count, end }
+}
+
+pub fn plan_letters(voice: Voice, body: &[u8], seek: &[u8], letters: &[u8]) -> Plan
+    requires { ⌜ Ready voice true (now body) (now seek) ⌝ }
+    requires { ⌜ length (now letters) ≤ 65536 ⌝ }
+    requires { ⌜ Named (entriesSaid true (now seek)) (now letters) ⌝ }
+    ensures { λ r. ⌜ Planned (itemsOf voice (now (body .entry))) (length (now (body .entry))) (entriesSaid true (now (seek .entry))) (now (letters .entry)) r ⌝ }
+{
+    let spans = find_spans(voice, body, seek, letters);
+    add_spans(spans, letters)
 }
 
 // The rows of all letters of a list, one section after the other. A section that is played again is copied from where it was written first.

@@ -8,7 +8,7 @@ mod stream;
 
 pub use bodies::bytes_in;
 pub use bodies::open_track;
-pub use letters::plan_letters;
+pub use letters::find_spans;
 pub use operation::play;
 pub use phrases::letters_played;
 pub use stream::points_of;

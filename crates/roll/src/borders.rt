@@ -115,8 +115,7 @@ fn draw_planned(
     requires { ⌜ length (now letters) ≤ 65536 ⌝ }
     requires { ⌜ Named (entriesSaid true (now seek)) (now letters) ⌝ }
 {
-    let plan = playing::plan_letters(voice, body, seek, letters);
-    let spans = plan.spans;
+    let spans = playing::find_spans(voice, body, seek, letters);
     draw_sections(page, used, layout, base, spans, letters)
 }
 
