@@ -22,7 +22,7 @@ use Rattle.model.specs.declared.FlattenAnswer.the-variants as flatten
 use Rattle.model.proofs.Tests.{by-test}
 use Rattle.reading.specs.Stages.{fileAnswer}
 use Rattle.reading.proofs.Stated.{stated-past, stated-over, stated-within, stated-small}
-use Rattle.playing.specs.Performing.{bytesIn, Inside, Open, Opens, trackNamed, rowPerformed}
+use Rattle.playing.specs.Performing.{bytesIn, Open, Opens, trackNamed, rowPerformed}
 use Rattle.playing.proofs.Operations.{bodies-ready}
 use Rattle.playing.proofs.RowPerformed.{stated-fine, stated-refused, opened-track, row-inside, no-track}
 use Rattle.flattening.specs.Orders.{fitted}

@@ -22,10 +22,10 @@ use Rattle.model.specs.declared.Span.{Span}
 use Rattle.model.specs.declared.Shape.{Shape}
 use Rattle.model.proofs.Tests.{by-test}
 use Rattle.model.proofs.Stores.{sets-append}
-use Rattle.sections.specs.Spans.{Items, spanRows, Playable}
+use Rattle.sections.specs.Spans.{Items, spanRows, Playable, SpanRises}
 use Rattle.plain.proofs.PlainItems.{bytes-append}
 use Rattle.playing.specs.Performing.{spanAt, AllPlayable, lastsTogether, rowsTogether, AllRise}
-use Rattle.flattening.specs.Parts.{told, partBytes, partLast, spanShape, spanBytes, SpanRises, Written, WrittenWhereKnown}
+use Rattle.flattening.specs.Parts.{told, partBytes, partLast, spanShape, spanBytes, Written, WrittenWhereKnown}
 use Rattle.flattening.specs.Orders.{orderBytes, shapeAt, AllShaped}
 use Rattle.flattening.proofs.Joining.{plain-bytes}
 use Rattle.flattening.proofs.Shapes.{last-within}

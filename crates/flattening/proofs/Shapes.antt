@@ -16,8 +16,8 @@ use Rattle.model.specs.declared.Event.{Event}
 use Rattle.model.specs.declared.Outline.{Outline}
 use Rattle.model.specs.declared.Span.{Span}
 use Rattle.model.proofs.Tests.{by-test}
-use Rattle.sections.specs.Spans.{Items, messagesAfter, itemsFrom, counted, spanRows, Rising}
-use Rattle.flattening.specs.Parts.{plainPart, lastStep, told, partBytes, partLast, gapBytes, gapSize, shapeOf, spanShape, bytesAfterGap, spanBytes, SpanRises, silence, joined, shaped}
+use Rattle.sections.specs.Spans.{Items, messagesAfter, itemsFrom, counted, spanRows, Rising, SpanRises}
+use Rattle.flattening.specs.Parts.{plainPart, lastStep, told, partBytes, partLast, gapBytes, gapSize, shapeOf, spanShape, bytesAfterGap, spanBytes, silence, joined, shaped}
 use Rattle.flattening.proofs.Joining.{gap-length, first-after-gap, after-gap-length, first-length}
 
 -- rows joined to an outline one after the other

@@ -1,7 +1,7 @@
 -- What every call of FLATTEN has, whatever the file: where it answers a length, so many bytes at the head of the room are the plain form of
 -- what the track plays, which plays the same (demand 3); and two results that satisfy its promise are equal.
 use Prim.Native.Nat.{ℕ, _<_}
-use mathlib.Core.List.{List, _++_}
+use mathlib.Core.List.{List}
 use mathlib.Core.Path.{_≡_, refl, sym, _∙_, ap, ap₂}
 use lib.ListN.{length, take, drop}
 use lib.Seq.{take-append-seam}

@@ -4,14 +4,14 @@ use Prim.Native.Nat.{ℕ, _+_, _<_, _≤_}
 use mathlib.Core.Bool.{true, false}
 use mathlib.Core.List.{List, [], _∷_, map, append-nil}
 use mathlib.Core.Option.{none, some}
-use mathlib.Core.Path.{_≡_, refl, sym, _∙_, ap, ap₂, subst}
+use mathlib.Core.Path.{_≡_, refl, sym, _∙_, ap, ap₂}
 use lib.ListN.{length, replicate}
-use native.Mathlib.Nat.{zero-add, add-zero}
+use native.Mathlib.Nat.{zero-add}
 use native.Mathlib.Omega.{arith}
 use Rattle.model.specs.Words.{sum, _otherwise_, Checked.refused}
 use Rattle.model.specs.Bytes.{_!_}
-use Rattle.model.specs.Item.{bodyOf, isFine, itemsOf}
-use Rattle.model.specs.Seek.{phraseOf, startPoint, stopPoint}
+use Rattle.model.specs.Item.{itemsOf}
+use Rattle.model.specs.Seek.{startPoint, stopPoint}
 use Rattle.model.specs.Play.{At, Section, playedFrom, sounding, tuneOf, retold}
 use Rattle.model.specs.Word.{isMessage}
 use Rattle.model.specs.Order.{streamSection, orderOf}
@@ -26,7 +26,7 @@ use Rattle.model.specs.declared.FlattenAnswer.the-variants as flatten
 use Rattle.sections.specs.Spans.{Items, onsets, spanOf, spanRows, Playable, Small, Rising}
 use Rattle.sections.proofs.Stretches.{span-sounds}
 use Rattle.sections.proofs.Tunes.{stream-section-rises}
-use Rattle.playing.specs.Performing.{entriesSaid, Ready, spanAt, letterSection, letterSpan, AllPlayable, AllShort, lastsTogether, rowsTogether, Found, AllRise}
+use Rattle.playing.specs.Performing.{entriesSaid, Ready, spanAt, letterSection, AllPlayable, AllShort, lastsTogether, rowsTogether, Found, AllRise}
 use Rattle.playing.proofs.Together.{letters-playable, letters-last, letters-sound, span-rises, letters-rise}
 use Rattle.flattening.specs.Parts.{told}
 use Rattle.flattening.specs.Orders.{orderBytes, fitted}

@@ -12,9 +12,9 @@ use Rattle.model.specs.declared.Event.{Event}
 use Rattle.model.specs.declared.Shape.{Shape}
 use Rattle.model.specs.declared.Span.{Span}
 use Rattle.model.proofs.Stores.{sets-append}
-use Rattle.sections.specs.Spans.{Items, spanRows}
+use Rattle.sections.specs.Spans.{Items, spanRows, SpanRises}
 use Rattle.sections.proofs.Copying.{part-before, part-stored}
-use Rattle.flattening.specs.Parts.{partBytes, partLast, gapBytes, gapSize, spanShape, spanBytes, SpanRises, Written, WrittenWhereKnown}
+use Rattle.flattening.specs.Parts.{partBytes, partLast, gapBytes, gapSize, spanShape, spanBytes, Written, WrittenWhereKnown}
 use Rattle.flattening.proofs.Joining.{gap-length}
 use Rattle.flattening.proofs.Telling.{none-told, none-last}
 use Rattle.flattening.proofs.Shapes.{span-bytes, span-size, span-tail, span-silent, span-counted, span-ends, span-lead-within, span-tail-within, last-within}

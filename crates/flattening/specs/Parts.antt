@@ -16,7 +16,7 @@ use Rattle.model.specs.declared.Event.{Event}
 use Rattle.model.specs.declared.Shape.{Shape}
 use Rattle.model.specs.declared.Outline.{Outline}
 use Rattle.model.specs.declared.Span.{Span}
-use Rattle.sections.specs.Spans.{Items, spanRows, Rising}
+use Rattle.sections.specs.Spans.{Items, spanRows}
 
 -- each message in its own form after the gap to the one before
 unfoldable pub plainPart : ℕ → List (At Content) → List (Item Content)
@@ -82,10 +82,6 @@ pub record Written (bytes : List ℕ) (place : ℕ) (out : List ℕ) (at : ℕ) 
 -- place 0 says that it is not known where they stand
 abbrev pub WrittenWhereKnown : List ℕ → ℕ → List ℕ → ℕ → Type 0
 WrittenWhereKnown bytes place out at = (place ≡ 0 → ⊥) → Written bytes place out at
-
--- the steps of a span never fall, and none is past where it ends
-abbrev pub SpanRises : Items → Span → Type 0
-SpanRises items span = (before : ℕ) → Rising before (before + span .lasts) (spanRows items span before)
 
 -- nothing is counted yet
 abbrev pub silence : Outline

@@ -2,11 +2,10 @@
 -- refused item is refused with 11 at its own place.
 use Prim.Native.Nat.{ℕ, _+_, _<_, _≤_}
 use mathlib.Core.List.{List}
-use mathlib.Core.Bool.{Bool, true, false}
 use mathlib.Core.Path.{_≡_, refl}
 use lib.ListN.{length}
 use native.Mathlib.Omega.{arith}
-use borrow.Author.Tests.{ltb-true, ltb-false, leb-true, leb-false}
+use borrow.Author.Tests.{leb-false}
 use Rattle.model.specs.Duration.{durationAt, notZero, gateAt}
 use Rattle.model.specs.Event.{gated, soundAt, longAt, shortAt, formed, controlAt, closedAt, exclusiveAt, systemAt, eventAt}
 use Rattle.model.specs.Item.{withEvent, withDuration, itemAt, itemMet, itemStep, setupMessageAt, messageMet, setupStep}

@@ -1,9 +1,9 @@
 -- The laws that the functions' proofs cite, each file resting on those above it.
 pub mod Matches
 pub mod Ahead
+pub mod Passing
 pub mod Reading
 pub mod Setup
 pub mod Standing
-pub mod Passing
 pub mod Addresses
 pub mod Within

@@ -1,15 +1,15 @@
 -- Items passed by: what is read where a byte below 128 and one that is neither 00 nor FF stand, and the place after an item.
-use Prim.Native.Nat.{ℕ, _+_, _<_}
-use mathlib.Core.Bool.{Bool, true, false}
+use Prim.Native.Nat.{ℕ, _+_, _<_, _-_, _≤_}
+use mathlib.Core.Bool.{true, false}
 use mathlib.Core.List.{List}
 use mathlib.Core.Path.{_≡_, refl, sym, _∙_, subst}
 use lib.ListN.{length}
 use native.Mathlib.Omega.{arith}
-use borrow.Author.Tests.{lt-leb, lt-ltb, ne-eqb, eqb-true}
+use borrow.Author.Tests.{lt-leb, lt-ltb, ne-eqb, eqb-true, le-leb, leb-true, ltb-true, eqb-false, not-true}
 use Rattle.model.specs.Words.{if_then_else_, _and_, _≤?_, _≡?_}
 use Rattle.model.specs.Bytes.{_!_}
 use Rattle.model.specs.Duration.{durationAt, notZero, gateAt}
-use Rattle.model.specs.Event.{isSound, gated, soundAt, eventAt}
+use Rattle.model.specs.Event.{isSound, gated, soundAt, eventAt, sound}
 use Rattle.model.specs.Item.{isEndMark, withEvent, withDuration, itemAt}
 use Rattle.model.specs.declared.Voice.{Voice}
 use Rattle.model.specs.declared.Event.{Event}
@@ -19,7 +19,7 @@ use Rattle.model.specs.declared.ReadEvent.{ReadEvent}
 use Rattle.model.specs.declared.ReadItem.{ReadItem}
 use Rattle.model.specs.declared.ReadItem.the-variants.{Timed, EndMark, Refused}
 use Rattle.model.proofs.Tests.{by-test, if-all, and-left, and-right}
-use Rattle.items.specs.Passing.{EndsAt, ShortAt, ShortIf}
+use Rattle.items.specs.Passing.{EndsAt, isShort}
 
 -- AN ITEM THAT IS READ
 
@@ -75,18 +75,40 @@ module _ (voice : Voice) (s : List ℕ) (at : ℕ) (there : at + 1 < length s) (
         (λ t. subst (λ (d : ReadDuration). EndsAt (at + 3) (withEvent at (s ! at) (gated voice (s ! (at + 1)) d))) (sym gate-is) gated-ends)
         (λ t. tt))
 
-    -- all of it in order
-    short-stands : (s ! (at + 2) ≡ 0 → ⊥) → isSound voice (s ! (at + 1)) ≡ true → ShortAt voice s at
-    unfolding soundAt withEvent notZero gated if_then_else_
-    short-stands some ok = record { is = sounds-here ∙ simp (ok, gate-is, ne-eqb); within = omega arith; one = one }
+-- A SHORT ONE, as a test tells it
 
-    pub short-told : (r : Bool) → (s ! (at + 2) ≡ 0 → ⊥) → r ≡ isSound voice (s ! (at + 1)) → ShortIf r voice s at
-    unfolding ShortIf
-    short-told true some e = short-stands some (sym e)
-    short-told false some e = tt
+pub record Short (voice : Voice) (s : List ℕ) (at : ℕ) : Type 0 where
+  pub is : itemAt voice s at ≡ Timed (s ! at) (sound voice (s ! (at + 1)) (s ! (at + 2))) (at + 3)
+  pub within : at + 3 ≤ length s
+  pub one : s ! at < 128
 
-pub not-short : (voice : Voice) (s : List ℕ) (at : ℕ) → ShortIf false voice s at
-unfolding ShortIf
-not-short voice s at = tt
+pub short-stands : (voice : Voice) (s : List ℕ) (at : ℕ) → isShort voice s at ≡ true → Short voice s at
+unfolding isShort soundAt withEvent notZero gated if_then_else_
+short-stands voice s at t =
+    let within : at + 3 ≤ length s = leb-true (at + 3) (length s) (and-left _ _ t) in
+    let t1 = and-right _ _ t in
+    let one : s ! at < 128 = ltb-true (s ! at) 128 (and-left _ _ t1) in
+    let t2 = and-right _ _ t1 in
+    let control : s ! (at + 1) ≡ 0x00 → ⊥ = eqb-false (s ! (at + 1)) 0x00 (not-true _ (and-left _ _ t2)) in
+    let t3 = and-right _ _ t2 in
+    let system : s ! (at + 1) ≡ 0xFF → ⊥ = eqb-false (s ! (at + 1)) 0xFF (not-true _ (and-left _ _ t3)) in
+    let t4 = and-right _ _ t3 in
+    let some : s ! (at + 2) ≡ 0 → ⊥ = eqb-false (s ! (at + 2)) 0 (not-true _ (and-left _ _ t4)) in
+    let t5 = and-right _ _ t4 in
+    let gate : s ! (at + 2) < 128 = ltb-true (s ! (at + 2)) 128 (and-left _ _ t5) in
+    let sounds : isSound voice (s ! (at + 1)) ≡ true = and-right _ _ t5 in
+    let starts = sounds-here voice s at (omega arith) one control system in
+    let gates = gate-is voice s at (omega arith) one control system (omega arith) gate in
+    record { is = starts ∙ simp (sounds, gates, ne-eqb); within = within; one = one }
+
+-- the room for one, as the code tests it
+
+pub short-lacks-room : (s : List ℕ) (at : ℕ) → length s - at < 3 → (at + 3 ≤? length s) ≡ false
+short-lacks-room s at h = lt-leb (at + 3) (length s) (omega arith)
+
+pub short-has-room : (s : List ℕ) (at : ℕ) → 3 ≤ length s - at → (at + 3 ≤? length s) ≡ true
+short-has-room s at h = le-leb (at + 3) (length s) (omega arith)
 
 pub ruleset passing = (read-ends, mark-ends, none-ends)
+
+pub ruleset shorts = (short-lacks-room, short-has-room)

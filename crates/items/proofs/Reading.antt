@@ -9,7 +9,7 @@ use native.Mathlib.Omega.{arith}
 use mir.Val.{Fits}
 use mir.Syntax.{w64}
 use borrow.Author.Tests.{eq-eqb, ne-eqb, eqb-true, eqb-false}
-use Rattle.model.specs.Words.{if_then_else_, _≡?_, sum, Placed, Checked, Checked.fine, Checked.refused, passed, Step, Step.met, Step.stuck, walkTo, inTurn}
+use Rattle.model.specs.Words.{if_then_else_, _≡?_, sum, Placed, Checked, Checked.fine, Checked.refused, passed, Step.met, walkTo, inTurn}
 use Rattle.model.specs.Bytes.{_!_}
 use Rattle.model.specs.Item.{Item, Item.timed, Item.endMark, durationOf, lasting, itemAt, itemMet, itemStep, isMark, afterEndMark, notAfterEndMark, bodyOf, bodyAnswer}
 use Rattle.model.specs.declared.Voice.{Voice}
@@ -20,8 +20,9 @@ use Rattle.model.specs.declared.ReadBody.{ReadBody}
 use Rattle.model.specs.declared.ReadBody.the-variants as body
 use Rattle.model.proofs.Tests.{by-test}
 use Rattle.model.proofs.Walks.{withFirst, Left, left-starts, left-ends, left-stuck, left-refused, left-next}
-use Rattle.items.specs.Passing.{ShortAt, ShortIf, endedAt}
+use Rattle.items.specs.Passing.{endedAt, isShort}
 use Rattle.items.proofs.Ahead.{ItemAhead, item-ahead}
+use Rattle.items.proofs.Passing.{Short, short-stands}
 
 abbrev Items : Type 0
 Items = List (Placed (Item Event))
@@ -168,10 +169,9 @@ module _ (voice : Voice) (s : List ℕ) (at count lasts : ℕ) (r : Reading voic
   body-few here small = omega (arith, r .few)
 
   -- a short note or wave
-  module _ (told : Bool) (here : at < length s) (found : told ≡ true) (so : ShortIf told voice s at) where
-    short : ShortAt voice s at
-    unfolding ShortIf
-    short = subst (λ (b : Bool). ShortIf b voice s at) found so
+  module _ (told : Bool) (here : at < length s) (found : told ≡ true) (so : told ≡ isShort voice s at) where
+    short : Short voice s at
+    short = short-stands voice s at (sym so ∙ found)
 
     pub short-within : at + 3 ≤ length s
     short-within = short .within

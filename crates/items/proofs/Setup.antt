@@ -1,17 +1,16 @@
 -- One walk of a setup body: the invariant of `read_setup`'s loop, and what each way out of it and each turn makes of it.
 use Prim.Native.Nat.{ℕ, _+_, _-_, _<_, _≤_}
 use mathlib.Core.List.{List, [], _∷_}
-use mathlib.Core.Bool.{Bool, true, false}
+use mathlib.Core.Bool.{true, false}
 use mathlib.Core.Path.{_≡_, refl, sym, _∙_, ap, subst}
 use lib.ListN.{length}
 use native.Mathlib.Omega.{arith}
 use borrow.Author.Tests.{eq-eqb, ne-eqb, le-leb, lt-leb}
-use Rattle.model.specs.Words.{if_then_else_, _≤?_, Checked, Checked.fine, Checked.refused, passed, walkTo, inTurn}
+use Rattle.model.specs.Words.{if_then_else_, _≤?_, Checked, passed, walkTo, inTurn}
 use Rattle.model.specs.Item.{setupMessageAt, messageMet, setupStep, setupOf, checkAnswer}
 use Rattle.model.specs.declared.Event.{Event}
 use Rattle.model.specs.declared.ReadEvent.{ReadEvent}
 use Rattle.model.specs.declared.ReadEvent.the-variants as event
-use Rattle.model.specs.declared.Check.{Check}
 use Rattle.model.specs.declared.Check.the-variants as check
 use Rattle.model.proofs.Answers.{answer-first}
 use Rattle.model.proofs.Walks.{Left, left-starts, left-ends, left-stuck, left-next}

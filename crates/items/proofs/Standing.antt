@@ -1,13 +1,13 @@
 -- A BODY READS to items exactly where it is not empty, they stand in it one after the other from its head to its end, and an end mark is
 -- the last of them.
-use Prim.Native.Nat.{ℕ, _<_, _≤_}
+use Prim.Native.Nat.{ℕ, _<_}
 use mathlib.Core.List.{List, []}
 use mathlib.Core.Bool.{Bool, true, false}
-use mathlib.Core.Path.{_≡_, refl, sym, _∙_}
+use mathlib.Core.Path.{_≡_, refl}
 use lib.ListN.{length}
 use native.Mathlib.Omega.{arith}
 use borrow.Author.Tests.{ne-eqb, eqb-false}
-use Rattle.model.specs.Words.{if_then_else_, _≡?_, Placed, Checked, Checked.fine, Checked.refused, walkTo, inTurn}
+use Rattle.model.specs.Words.{if_then_else_, _≡?_, Placed, Checked.fine, Checked.refused, walkTo, inTurn}
 use Rattle.model.specs.Item.{Item, itemStep, notAfterEndMark, bodyOf}
 use Rattle.model.specs.declared.Voice.{Voice}
 use Rattle.model.specs.declared.Event.{Event}

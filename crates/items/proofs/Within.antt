@@ -2,10 +2,10 @@
 use Prim.Native.Nat.{ℕ, suc, _≤_}
 use mathlib.Core.List.{List, []}
 use mathlib.Core.Bool.{Bool, true, false}
-use mathlib.Core.Path.{_≡_, refl, sym, _∙_, ap, subst}
+use mathlib.Core.Path.{_≡_, sym, _∙_}
 use lib.ListN.{length}
 use native.Mathlib.Omega.{arith}
-use Rattle.model.specs.Words.{if_then_else_, _≡?_, Placed, Checked, Checked.fine, Checked.refused, passed, Step, Step.met, Step.stuck, walkTo, inTurn}
+use Rattle.model.specs.Words.{if_then_else_, _≡?_, Placed, Checked.refused, passed, Step.stuck, walkTo, inTurn}
 use Rattle.model.specs.Item.{Item, itemAt, itemMet, itemStep, afterEndMark, notAfterEndMark, bodyOf, setupMessageAt, messageMet, setupStep, setupOf}
 use Rattle.model.specs.declared.Voice.{Voice}
 use Rattle.model.specs.declared.Event.{Event}

@@ -1,13 +1,12 @@
 -- What the walk of a body says of the items that it passes, and of its end mark.
-use Prim.Native.Nat.{ℕ, _+_, _<_, _≤_}
-use mathlib.Core.Bool.{Bool, true, false}
+use Prim.Native.Nat.{ℕ, _+_}
+use mathlib.Core.Bool.{Bool, not}
 use mathlib.Core.List.{List}
 use mathlib.Core.Path.{_≡_}
 use lib.ListN.{length}
-use Rattle.model.specs.Words.{if_then_else_, _≡?_}
+use Rattle.model.specs.Words.{if_then_else_, _≡?_, _and_, _<?_, _≤?_}
 use Rattle.model.specs.Bytes.{_!_}
-use Rattle.model.specs.Event.{sound}
-use Rattle.model.specs.Item.{itemAt}
+use Rattle.model.specs.Event.{isSound}
 use Rattle.model.specs.declared.Voice.{Voice}
 use Rattle.model.specs.declared.ReadBody.{ReadBody}
 use Rattle.model.specs.declared.ReadBody.the-variants as body
@@ -20,16 +19,10 @@ EndsAt place (Timed duration event next) = place ≡ next
 EndsAt place (EndMark next) = place ≡ next
 EndsAt place (Refused number at) = Unit
 
--- a note or wave of three bytes: its duration, its first byte and its gate time
-pub record ShortAt (voice : Voice) (s : List ℕ) (at : ℕ) : Type 0 where
-  pub is : itemAt voice s at ≡ Timed (s ! at) (sound voice (s ! (at + 1)) (s ! (at + 2))) (at + 3)
-  pub within : at + 3 ≤ length s
-  pub one : s ! at < 128
-
--- what a test says that found one, or none
-unfoldable pub ShortIf : Bool → Voice → List ℕ → ℕ → Type 0
-ShortIf true voice s at = ShortAt voice s at
-ShortIf false voice s at = Unit
+-- a note or wave that is not refused and takes three bytes: its duration, its first byte and its gate time
+unfoldable pub isShort : Voice → List ℕ → ℕ → Bool
+isShort voice s at =
+    (at + 3 ≤? length s) and (s ! at <? 128) and not (s ! (at + 1) ≡? 0x00) and not (s ! (at + 1) ≡? 0xFF) and not (s ! (at + 2) ≡? 0) and (s ! (at + 2) <? 128) and isSound voice (s ! (at + 1))
 
 -- a body whose end mark ends at a place, after so many items
 unfoldable pub endedAt : ℕ → ℕ → ℕ → ℕ → ReadBody

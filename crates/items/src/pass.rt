@@ -1,9 +1,10 @@
 // Notes and waves whose duration and gate time take one byte each, as most items are: whether one stands at a place, and the place after an
 // item of a body that is known to read, which for these is three bytes on, with nothing tested that such a body has passed.
+ghost use mathlib.Core.Path.{_≡_};
 ghost use Prim.Native.Nat.{_<_};
 ghost use lib.ListN.{length};
 ghost use Rattle.model.specs.Item.{itemAt};
-ghost use Rattle.items.specs.Passing.{EndsAt, ShortIf};
+ghost use Rattle.items.specs.Passing.{EndsAt, isShort};
 use super::event::is_sound;
 use super::item::read_item;
 use model::ReadItem;
@@ -52,7 +53,7 @@ pub fn pass_item(voice: Voice, s: &[u8], at: usize) -> usize
 // Whether a short note or wave stands at a place, and is not refused.
 pub fn is_short(voice: Voice, s: &[u8], at: usize) -> bool
     requires { ⌜ at < length (now s) ⌝ }
-    ensures { λ r. ⌜ ShortIf r voice (now (s .entry)) at ⌝ }
+    ensures { λ r. ⌜ r ≡ isShort voice (now (s .entry)) at ⌝ }
 {
     if s.len() - at < 3 {
         return false;

@@ -5,11 +5,11 @@ use mathlib.Core.List.{List, [], _∷_}
 use mathlib.Core.Bool.{Bool, true, false, false≢true}
 use mathlib.Core.Option.{Option, none, some}
 use mathlib.Core.Path.{_≡_, refl, sym, _∙_, ap, ap₂}
-use lib.ListN.{length, take, drop, length-take, length-drop, List·getD-eq-default}
+use lib.ListN.{length, take, drop, length-take, List·getD-eq-default}
 use lib.Seq.{getD-take, getD-drop}
 use native.Mathlib.Omega.{arith}
 use native.Mathlib.Decide.{decLt}
-use Rattle.model.specs.Words.{_≡?_, _otherwise_, firstSaid, Placed, Checked, Checked.fine, Checked.refused, countedFrom, each}
+use Rattle.model.specs.Words.{_≡?_, _otherwise_, firstSaid, Placed, Checked, Checked.fine, each}
 use Rattle.model.specs.Bytes.{_!_, part}
 use Rattle.model.specs.Item.{Item, isFine, found, bodyOf}
 use Rattle.model.specs.Seek.{Entry, seekOf, orderList, pointsSaid}

@@ -5,22 +5,19 @@
 use Prim.Native.Nat.{ℕ, _<_}
 use mathlib.Core.Bool.{false}
 use mathlib.Core.List.{List, [], _∷_, _++_}
-use mathlib.Core.Option.{Option, none, some}
-use mathlib.Core.Path.{_≡_, refl, sym, _∙_, ap, ap₂, subst}
-use native.Mathlib.Omega.{arith}
+use mathlib.Core.Option.{none, some}
+use mathlib.Core.Path.{_≡_, refl, sym, _∙_, ap₂, subst}
 use Rattle.model.specs.Words.{_otherwise_, firstSaid, Placed, Checked.fine}
 use Rattle.model.specs.Bytes.{_!_}
 use Rattle.model.specs.Item.{Item, bodyOf}
 use Rattle.model.specs.Seek.{startPoint, stopPoint}
-use Rattle.model.specs.Play.{Section, retold}
+use Rattle.model.specs.Play.{retold}
 use Rattle.model.specs.Track.{Track}
-use Rattle.model.specs.File.{trackAt}
 use Rattle.model.specs.Order.{streamSection, orderOf, playOrder, tuneIn}
 use Rattle.model.specs.Plain.{plainItems, plainForm}
 use Rattle.model.specs.Content.{contentOf, contentsIn, handyPhone}
-use Rattle.model.specs.Answer.{Performance, named, ordered, performed, plainOf}
+use Rattle.model.specs.Answer.{Performance, ordered, performed, plainOf}
 use Rattle.model.specs.declared.Event.{Event}
-use Rattle.model.proofs.Outcomes.{bind-fine}
 use Rattle.reading.proofs.Performed.{performed-so}
 use Rattle.sections.proofs.WholeStream.{streamed}
 use Rattle.plain.proofs.PlainReads.{WritableTune, plain-reads}

@@ -1,21 +1,17 @@
 -- What a body plays as a stream without points, told by the contents of its events, is told by the contents of its items.
-use Prim.Native.Nat.{ℕ, _+_, _-_}
-use mathlib.Core.List.{List, [], _∷_, map, append-nil}
-use mathlib.Core.Option.{none}
+use Prim.Native.Nat.{ℕ, _+_}
+use mathlib.Core.List.{List, [], _∷_, map}
 use mathlib.Core.Path.{_≡_, refl, _∙_, ap, ap₂}
 use native.Mathlib.Omega.{arith}
-use borrow.Author.Tests.{le-ltb}
-use Rattle.model.specs.Words.{if_then_else_, _<?_, keep, sum}
+use Rattle.model.specs.Words.{if_then_else_, sum}
 use Rattle.model.specs.Item.{Item, Item.timed, Item.endMark, durationOf, lasting}
-use Rattle.model.specs.Play.{At, Tune, onsetsAfter, withMessage, messagesOf, sounding, playedFrom, tuneOf, retold}
-use Rattle.model.specs.Points.{timeOf}
+use Rattle.model.specs.Play.{At, onsetsAfter, withMessage, messagesOf, retold}
 use Rattle.model.specs.Word.{isMessage}
-use Rattle.model.specs.Order.{streamSection}
 use Rattle.model.specs.Content.{Content, contentOf, contentIn, contentsIn, isSaid}
 use Rattle.model.specs.declared.Event.{Event}
 use Rattle.model.specs.declared.Event.the-variants.{Nop, Note, Wave, Control, Exclusive}
 use Rattle.model.proofs.Tests.{by-test}
-use Rattle.sections.specs.Spans.{Items, messagesAfter, messagesWithin, counted}
+use Rattle.sections.specs.Spans.{Items, messagesAfter}
 use Rattle.sections.proofs.WholeStream.{streamed, stream-messages, stream-end}
 use Rattle.plain.proofs.PlainPlays.{durations}
 

@@ -4,7 +4,7 @@ use mathlib.Core.Path.{_≡_, refl, sym, _∙_, ap, subst}
 use mathlib.Core.Bool.{Bool, true, false}
 use mathlib.Core.List.{List, []}
 use mathlib.Core.Option.{Option, none, some}
-use lib.ListN.{length, length-take, length-drop}
+use lib.ListN.{length}
 use native.Mathlib.Omega.{arith}
 use mir.Val.{Fits}
 use mir.Syntax.{w64}
@@ -14,7 +14,7 @@ use Rattle.model.specs.Chunk.{Chunk, bodyBytes, foundChunk}
 use Rattle.model.specs.Item.{Item, isFine, found, bodyOf, itemsOf}
 use Rattle.model.specs.Seek.{Entry, seekOf}
 use Rattle.model.specs.Points.{pointsHold, orderHolds}
-use Rattle.model.specs.Track.{Track, partId, partNamed, required, pointWidth, pointsOf, seekIn, entriesOf, trackOf}
+use Rattle.model.specs.Track.{Track, partId, partNamed, pointWidth, pointsOf, seekIn, entriesOf, trackOf}
 use Rattle.model.specs.declared.Voice.{Voice}
 use Rattle.model.specs.declared.Event.{Event}
 use Rattle.model.specs.declared.Part.the-variants as parts

@@ -5,7 +5,7 @@ use mathlib.Core.Bool.{Bool, true}
 use mathlib.Core.List.{List}
 use mathlib.Core.Option.{Option, none, some}
 use lib.ListN.{length, take}
-use Rattle.model.specs.Words.{if_then_else_, _or_, _<?_, Checked, Checked.fine, Checked.refused, passed, _>>=_, _>>_}
+use Rattle.model.specs.Words.{if_then_else_, _<?_, Checked, Checked.fine, Checked.refused, passed, _>>=_, _>>_}
 use Rattle.model.specs.Item.{isFine}
 use Rattle.model.specs.Play.{Section, Tune}
 use Rattle.model.specs.Order.{playOrder, tuneIn}

@@ -5,7 +5,7 @@ use mathlib.Core.Bool.{true, false, not, false≢true}
 use mathlib.Core.List.{List, [], _∷_, map}
 use mathlib.Core.Option.{Option, none, some}
 use lib.ListN.{length, take, drop, length-take, length-drop}
-use lib.Seq.{take-nil, take-take, drop-drop, getD-take, getD-drop}
+use lib.Seq.{take-nil, take-take, drop-drop}
 use native.Mathlib.Nat.{sub-zero}
 use native.Mathlib.Omega.{arith}
 use borrow.Author.Tests.{ltb-false, eqb-false, not-true, not-false}

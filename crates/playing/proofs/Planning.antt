@@ -19,7 +19,6 @@ use Rattle.model.specs.declared.Voice.{Voice}
 use Rattle.model.specs.declared.Span.{Span}
 use Rattle.model.specs.declared.Plan.{Plan}
 use Rattle.sections.specs.Spans.{Items}
-use Rattle.sections.specs.Taking.{AllBytes}
 use Rattle.playing.specs.Performing.{noSpan, spanAt, letterSpan, Named, Spanned, AllFew, AllShort, messagesTogether, lastsTogether, Found, Added, Planned}
 use Rattle.playing.proofs.Bounded.{letter-few, letter-short}
 use Rattle.playing.proofs.Tables.{Table, Known, table-starts}

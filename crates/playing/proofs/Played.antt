@@ -1,6 +1,6 @@
 -- What is played, from its rows: 15 where a table has too little room, and otherwise the answer and the two tables. For a stream, whose
 -- rows are those of one span.
-use Prim.Native.Nat.{ℕ, _+_, _/_, _<_, _≤_, min}
+use Prim.Native.Nat.{ℕ, _/_, _<_, _≤_, min}
 use mathlib.Core.Path.{_≡_, refl, sym, _∙_, ap, ap₂}
 use mathlib.Core.Bool.{false}
 use mathlib.Core.List.{List, [], _∷_, _++_, map, append-nil}

@@ -1,23 +1,19 @@
 -- What every accepted play has, whatever the file: its steps never fall from row to row and none is past the end; a stream without points
 -- plays every message of its body, each at its onset; and two results that satisfy the promise of PLAY are equal.
-use Prim.Native.Nat.{ℕ, _+_, _-_, _≤_, min}
-use mathlib.Core.Path.{_≡_, refl, sym, _∙_, ap, ap₂, subst}
+use Prim.Native.Nat.{ℕ, min}
+use mathlib.Core.Path.{_≡_, sym, _∙_, ap, ap₂, subst}
 use mathlib.Core.Bool.{Bool, true, false, false≢true}
-use mathlib.Core.List.{List, [], _∷_, map, append-nil}
+use mathlib.Core.List.{List, [], _∷_, map}
 use mathlib.Core.Option.{Option, none, some}
 use lib.ListN.{length}
-use native.Mathlib.Omega.{arith}
-use borrow.Author.Tests.{le-ltb}
-use Rattle.model.specs.Words.{keep, sum, _otherwise_, Placed, Checked, Checked.fine, Checked.refused, if_then_else_}
-use Rattle.model.specs.Item.{lasting}
+use Rattle.model.specs.Words.{_otherwise_, Placed, Checked.fine}
 use Rattle.model.specs.Seek.{Entry, startPoint, stopPoint}
-use Rattle.model.specs.Points.{timeOf}
-use Rattle.model.specs.Play.{At, Section, Tune, onsetsAfter, messagesOf, sounding, playedFrom, tuneOf}
+use Rattle.model.specs.Play.{Section, Tune, tuneOf}
 use Rattle.model.specs.Word.{isMessage}
 use Rattle.model.specs.Order.{streamSection, orderOf, playOrder, tuneIn}
 use Rattle.model.specs.Track.{Track}
 use Rattle.model.specs.File.{File, fileOf, trackAt}
-use Rattle.model.specs.Answer.{Performance, named, ordered, performed, playOf, playAnswer, stepsTable, wordsTable}
+use Rattle.model.specs.Answer.{Performance, playOf, playAnswer, stepsTable, wordsTable}
 use Rattle.model.specs.declared.Event.{Event}
 use Rattle.model.specs.declared.PlayAnswer.{PlayAnswer}
 use Rattle.model.proofs.Outcomes.{then-fine, bind-fine}

@@ -25,7 +25,7 @@ use Rattle.model.specs.declared.Bodies.{Bodies}
 use Rattle.model.specs.declared.Extent.{Extent}
 use Rattle.model.specs.declared.OpenedTrack.{OpenedTrack}
 use Rattle.model.specs.declared.OpenedTrack.the-variants as opened
-use Rattle.sections.specs.Spans.{Items, spanOf, spanRows, Rising, Playable}
+use Rattle.sections.specs.Spans.{Items, spanOf, spanRows, Playable, SpanRises}
 use Rattle.sections.specs.Taking.{AllBytes}
 
 -- the entries of a seek body; a track without a seek chunk has none
@@ -113,11 +113,8 @@ Spanned items size entries spans letters = (i : ℕ) → i < length letters → 
 abbrev pub AllPlayable : Items → ℕ → List Span → List ℕ → Type 0
 AllPlayable items size spans letters = (i : ℕ) → i < length letters → Playable items size (spanAt spans (letters ! i))
 
--- the steps of each letter's span never fall, and none is past where it ends
 abbrev pub AllRise : Items → List Span → List ℕ → Type 0
-AllRise items spans letters =
-    (i : ℕ) → i < length letters → (before : ℕ)
-    → Rising before (before + spanAt spans (letters ! i) .lasts) (spanRows items (spanAt spans (letters ! i)) before)
+AllRise items spans letters = (i : ℕ) → i < length letters → SpanRises items (spanAt spans (letters ! i))
 
 -- no span plays more messages, or lasts longer, than a body can
 abbrev pub AllFew : List Span → List ℕ → Type 0

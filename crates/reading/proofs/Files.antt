@@ -1,19 +1,19 @@
 -- The whole file: what the frame and the top level make of it, and how many rows it has.
 use Prim.Native.Nat.{ℕ, _+_, _-_, _≤_}
 use mathlib.Core.Path.{_≡_, refl, sym, _∙_, ap, subst}
-use mathlib.Core.Bool.{Bool, true, false, not, true≢false, false≢true}
-use mathlib.Core.List.{List, [], _∷_, _++_, map}
+use mathlib.Core.Bool.{true, false≢true}
+use mathlib.Core.List.{List, [], _∷_, map}
 use lib.ListN.{length, length-append, length-map}
 use native.Mathlib.Omega.{arith}
 use borrow.Author.Tests.{ltb-false}
 use mir.Val.{Fits}
 use mir.Syntax.{w64}
-use Rattle.model.specs.Words.{if_then_else_, _or_, _<?_, _≡?_, sum, Checked, Checked.fine, Checked.refused, passed, _>>=_, _>>_, each}
-use Rattle.model.specs.Bytes.{number, MMMD}
+use Rattle.model.specs.Words.{_<?_, sum, Checked, Checked.fine, Checked.refused, passed, _>>=_, each}
+use Rattle.model.specs.Bytes.{number}
 use Rattle.model.specs.Item.{isFine, found, checkAnswer}
 use Rattle.model.specs.Chunk.{Chunk, chunkList}
 use Rattle.model.specs.Track.{isAllowed}
-use Rattle.model.specs.File.{File, Top, frameOf, topOf, contentsOf, rowIn, partsOf, chunkOf, rowsFrom, rowsOf}
+use Rattle.model.specs.File.{File, Top, frameOf, topOf, contentsOf, rowIn, partsOf, rowsFrom, rowsOf}
 use Rattle.model.specs.declared.ListOf.the-variants as list
 use Rattle.model.specs.declared.Check.{Check}
 use Rattle.model.specs.declared.Check.the-variants as check
@@ -24,7 +24,7 @@ use Rattle.chunks.specs.Kept.{chunksIn}
 use Rattle.chunks.proofs.Searches.{checked-chunks}
 use Rattle.model.proofs.Answers.{answer-refused, answer-passed}
 use Rattle.model.proofs.Tests.{by-test, if-true, first-true}
-use Rattle.reading.specs.Stages.{contentsHold, topRows, topsRows, topsAnswer, fileAnswer, Countable}
+use Rattle.reading.specs.Stages.{topRows, topsRows, topsAnswer, fileAnswer, Countable}
 
 -- a frame that passes
 

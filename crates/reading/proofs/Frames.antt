@@ -1,12 +1,12 @@
 -- The frame: its first chunk, its own size, and the stages of its check.
 use Prim.Native.Nat.{ℕ, _+_, _-_, _<_, _≤_}
-use mathlib.Core.Path.{_≡_, refl, sym, _∙_, ap, subst}
+use mathlib.Core.Path.{_≡_, sym, _∙_, ap}
 use mathlib.Core.Bool.{Bool, true, false, not}
-use mathlib.Core.List.{List, [], _∷_}
+use mathlib.Core.List.{List}
 use lib.ListN.{length}
 use native.Mathlib.Omega.{arith}
 use borrow.Author.Tests.{eq-eqb, ne-eqb, not-true, not-false}
-use Rattle.model.specs.Words.{if_then_else_, _and_, _or_, _<?_, _≤?_, _≡?_, Checked, Checked.fine, Checked.refused, passed, _>>=_, _>>_}
+use Rattle.model.specs.Words.{if_then_else_, _and_, _or_, _<?_, _≤?_, _≡?_, Checked.refused, passed, _>>=_, _>>_}
 use Rattle.model.specs.Bytes.{number, MMMD, CNTI}
 use Rattle.model.specs.Item.{isFine, found, checkAnswer}
 use Rattle.model.specs.Chunk.{Chunk, readChunk, chunkList}

@@ -1,17 +1,16 @@
 -- A chunk of the top level: the voice in which it is opened, and the number of its sub-chunks.
-use Prim.Native.Nat.{ℕ, _+_, _-_, _*_, _<_, _≤_}
+use Prim.Native.Nat.{ℕ, _+_, _-_, _<_, _≤_}
 use mathlib.Core.Path.{_≡_, refl, sym, _∙_, ap, subst}
-use mathlib.Core.Bool.{Bool, true, false, false≢true}
-use mathlib.Core.List.{List, [], _∷_}
+use mathlib.Core.Bool.{Bool, true, false}
+use mathlib.Core.List.{List}
 use mathlib.Core.Option.{Option, none, some}
 use lib.ListN.{length}
 use native.Mathlib.Nat.{add-zero, zero-add}
 use native.Mathlib.Omega.{arith}
-use Rattle.model.specs.Words.{if_then_else_, Checked, Checked.fine, Checked.refused, _>>=_, _>>_}
+use Rattle.model.specs.Words.{if_then_else_, Checked, Checked.fine, Checked.refused, _>>=_}
 use Rattle.model.specs.Item.{isFine, found, checkAnswer}
-use Rattle.model.specs.Chunk.{Chunk, readChunk, chunkStep, chunkList}
-use Rattle.model.specs.Bytes.{_!_}
-use Rattle.model.specs.Track.{Track, isAllowed, placeOfD, fixedHolds, voiceOf, trackOf}
+use Rattle.model.specs.Chunk.{Chunk, readChunk, chunkStep}
+use Rattle.model.specs.Track.{Track, isAllowed, fixedHolds, voiceOf, trackOf}
 use Rattle.model.specs.declared.ListOf.the-variants as list
 use Rattle.model.specs.declared.Voice.{Voice}
 use Rattle.model.specs.declared.FoundVoice.{FoundVoice}
@@ -22,7 +21,7 @@ use Rattle.chunks.specs.Kept.{chunksIn}
 use Rattle.model.proofs.Walks.{Stand}
 use Rattle.chunks.proofs.Lists.{ChunkAhead, chunk-ahead}
 use Rattle.chunks.proofs.Searches.{list-stands, none-left, never-cut, first-left, checked-chunks}
-use Rattle.model.specs.File.{Top, opened, topOf, partsOf}
+use Rattle.model.specs.File.{opened, topOf, partsOf}
 use Rattle.model.specs.declared.Check.{Check}
 use Rattle.model.specs.declared.Check.the-variants as check
 use Rattle.model.specs.declared.Counted.{Counted}
@@ -31,7 +30,7 @@ use Rattle.model.proofs.Outcomes.{fine-some}
 use Rattle.tracks.specs.Stages.{bare}
 use Rattle.model.proofs.Answers.{answer-refused, answer-passed}
 use Rattle.tracks.proofs.Stages.{fixed-room}
-use Rattle.reading.specs.Stages.{placed, voiceAnswer, topRows, topAnswer, Few}
+use Rattle.reading.specs.Stages.{placed, voiceAnswer, topRows, topAnswer}
 use Rattle.reading.proofs.TrackMade.{track-made}
 
 module _ (b : Bool) (x y : Checked (Option Voice)) (z : FoundVoice) where

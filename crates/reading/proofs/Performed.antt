@@ -4,7 +4,7 @@ use mathlib.Core.Path.{_≡_, refl, sym, ap}
 use mathlib.Core.List.{List}
 use mathlib.Core.Option.{Option, none, some}
 use native.Mathlib.Omega.{arith}
-use Rattle.model.specs.Words.{Checked, Checked.fine, Checked.refused}
+use Rattle.model.specs.Words.{Checked.fine}
 use Rattle.model.specs.Play.{Section}
 use Rattle.model.specs.Order.{playOrder, tuneIn}
 use Rattle.model.specs.Track.{Track}

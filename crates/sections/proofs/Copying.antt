@@ -1,9 +1,9 @@
 -- ROWS COPIED within a table: what is still to be stored makes the whole, and what stands before is kept.
 use Prim.Native.Nat.{ℕ, zero, suc, _+_, _-_, _<_, _≤_}
-use mathlib.Core.List.{List, [], _∷_, _++_, map, append-assoc}
+use mathlib.Core.List.{List, [], _∷_, _++_, append-assoc}
 use mathlib.Core.Path.{_≡_, refl, sym, _∙_, ap, ap₂}
-use lib.ListN.{length, take, drop, set, getD, length-set, length-map, length-take, length-drop}
-use lib.Seq.{sets, sets-eq, drop-cons, drop-length, getD-set-other, getD-take, getD-drop, take-set-le, drop-set-add, drop-at, take-append-seam, length-take-le}
+use lib.ListN.{length, take, drop, set, length-set, length-map}
+use lib.Seq.{sets, sets-eq, drop-cons, drop-length, getD-set-other, take-set-le, drop-set-add, drop-at, take-append-seam, length-take-le}
 use native.Mathlib.Nat.{add-zero}
 use native.Mathlib.Omega.{arith}
 use mir.Syntax.{w64}

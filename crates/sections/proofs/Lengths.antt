@@ -1,6 +1,6 @@
 -- How long a tune can last: each section lasts no longer than all items of the body, and an order list has no more letters than a file has
 -- bytes.
-use Prim.Native.Nat.{ℕ, _-_, _*_, _≤_}
+use Prim.Native.Nat.{ℕ, _*_, _≤_}
 use mathlib.Core.Bool.{Bool, true, false}
 use mathlib.Core.List.{List, [], _∷_, map}
 use mathlib.Core.Option.{Option, none, some}

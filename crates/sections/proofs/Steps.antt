@@ -1,5 +1,5 @@
 -- THE STEPS OF A SECTION never fall, begin where it begins and end where it ends; a section with no bounds plays every message.
-use Prim.Native.Nat.{ℕ, _+_, _-_, _<_, _≤_}
+use Prim.Native.Nat.{ℕ, _+_, _-_, _≤_}
 use mathlib.Core.Bool.{true}
 use mathlib.Core.List.{List, [], _∷_, map}
 use mathlib.Core.Option.{Option, none}

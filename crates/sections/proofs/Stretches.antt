@@ -1,6 +1,6 @@
 -- FROM A FILTER TO A STRETCH. The paper's rule plays each message whose onset is within a section; onsets never fall, so these are the
 -- first so many messages from some item on: the rows of a section's span are what the section sounds.
-use Prim.Native.Nat.{ℕ, _+_, _-_, _<_, _≤_}
+use Prim.Native.Nat.{ℕ, _+_, _≤_}
 use mathlib.Core.List.{List, [], _∷_, map}
 use mathlib.Core.Bool.{Bool, true}
 use mathlib.Core.Option.{Option, none, some}

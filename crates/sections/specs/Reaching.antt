@@ -42,14 +42,7 @@ spanOn reached messages lasts =
 
 -- the span from what is reached on, up to so many messages and a time
 unfoldable pub spanTo : Reached → ℕ → ℕ → Span
-spanTo reached messages time =
-    record {
-      first = reached .first;
-      past = reached .past;
-      start = reached .time;
-      messages = messages - reached .passed;
-      lasts = time - reached .time;
-    }
+spanTo reached messages time = spanOn reached (messages - reached .passed) (time - reached .time)
 
 -- One item further: a duration, so many messages, and the place after it. An item that takes time is the first that is not before its
 -- own onset.

@@ -91,6 +91,10 @@ abbrev pub Rising : ℕ → ℕ → List (At Event) → Type 0
 Rising low high [] = low ≤ high
 Rising low high (row ∷ rows) = (low ≤ row .step) × Rising (row .step) high rows
 
+-- the steps of a span never fall, and none is past where it ends
+abbrev pub SpanRises : Items → Span → Type 0
+SpanRises items span = (before : ℕ) → Rising before (before + span .lasts) (spanRows items span before)
+
 -- What a span of a body of a size can come to: each message takes a byte, and each byte at most the longest duration.
 pub record Small (size : ℕ) (span : Span) : Type 0 where
   pub few : span .messages ≤ size

@@ -12,23 +12,11 @@ ghost use Rattle.sections.specs.Reaching.{reachedOf, spanOn};
 use super::Written;
 use super::rows::write_rows;
 use super::span::at_head;
+use super::span::span_on;
 use super::walk::walk_to;
 use model::Reached;
 use model::Span;
 use model::Voice;
-
-// From what is reached on, with so many messages, and so long.
-fn span_on(reached: Reached, messages: usize, lasts: u64) -> Span
-    ensures { λ r. ⌜ r ≡ spanOn reached messages lasts ⌝ }
-{
-    Span {
-        first: reached.first,
-        past: reached.past,
-        start: reached.time,
-        messages,
-        lasts,
-    }
-}
 
 // From what is reached on, as it was written.
 fn span_written(reached: Reached, written: Written) -> Span

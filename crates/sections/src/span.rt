@@ -6,7 +6,7 @@ ghost use lib.ListN.{length};
 ghost use Rattle.model.specs.Item.{bodyOf, isFine, itemsOf};
 ghost use Rattle.model.specs.Points.{isAddress};
 ghost use Rattle.sections.specs.Spans.{spanBetween, spanFrom, Small};
-ghost use Rattle.sections.specs.Reaching.{atHead, spanTo};
+ghost use Rattle.sections.specs.Reaching.{atHead, spanOn, spanTo};
 use super::walk::walk_to;
 use model::Reached;
 use model::Span;
@@ -26,19 +26,26 @@ pub fn at_head() -> Reached
     }
 }
 
+// From what is reached on, with so many messages, and so long.
+pub fn span_on(reached: Reached, messages: usize, lasts: u64) -> Span
+    ensures { λ r. ⌜ r ≡ spanOn reached messages lasts ⌝ }
+{
+    Span {
+        first: reached.first,
+        past: reached.past,
+        start: reached.time,
+        messages,
+        lasts,
+    }
+}
+
 // From what is reached on, up to so many messages and a time.
 fn span_to(reached: Reached, messages: usize, time: u64) -> Span
     requires { ⌜ reached .passed ≤ messages ⌝ }
     requires { ⌜ reached .time ≤ time ⌝ }
     ensures { λ r. ⌜ r ≡ spanTo reached messages time ⌝ }
 {
-    Span {
-        first: reached.first,
-        past: reached.past,
-        start: reached.time,
-        messages: messages - reached.passed,
-        lasts: time - reached.time,
-    }
+    span_on(reached, messages - reached.passed, time - reached.time)
 }
 
 // Between two addresses. The body is walked once, up to the second.

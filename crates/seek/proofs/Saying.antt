@@ -1,14 +1,13 @@
 -- What the entries of a seek body say: the invariants of `read_points`' and `find_phrase`'s loops, and what each way out of them and each
 -- turn makes of them.
-use Prim.Native.Nat.{ℕ, _+_, _-_, _<_, _≤_}
+use Prim.Native.Nat.{ℕ, _+_, _<_, _≤_}
 use mathlib.Core.List.{List, [], _∷_}
 use mathlib.Core.Bool.{Bool, true, false, false≢true}
 use mathlib.Core.Option.{Option, none, some}
 use mathlib.Core.Path.{_≡_, refl, sym, _∙_, ap}
-use lib.ListN.{length, length-take, length-drop}
+use lib.ListN.{length}
 use native.Mathlib.Omega.{arith}
 use Rattle.model.specs.Words.{if_then_else_, _≡?_, isSome, _otherwise_, _orElse_, firstSaid, Placed}
-use Rattle.model.specs.Bytes.{part}
 use Rattle.model.specs.Item.{isFine}
 use Rattle.model.specs.Seek.{Entry, Entry.start, Entry.stop, Entry.phrase, Entry.order, tag, seekOf, Addresses, startIn, stopIn, phraseIn, orderIn, lettersFrom, startPoint, stopPoint, phraseOf, orderList, orderPlace, pointsSaid, foundPhrase}
 use Rattle.model.specs.Track.{pointWidth}

@@ -1,16 +1,16 @@
 -- A refusal of a seek body has a place within the body, or at most the letters of an order list past it.
-use Prim.Native.Nat.{ℕ, suc, _+_, _-_, _≤_}
+use Prim.Native.Nat.{ℕ, suc, _+_, _≤_}
 use mathlib.Core.List.{List, [], _∷_}
 use mathlib.Core.Bool.{Bool, true, false}
-use mathlib.Core.Path.{_≡_, refl, sym, _∙_, ap, ap₂, subst}
-use lib.ListN.{length, take, drop, length-take, length-drop}
+use mathlib.Core.Path.{_≡_, refl, sym, _∙_, ap₂, subst}
+use lib.ListN.{length}
 use native.Mathlib.Omega.{arith}
-use Rattle.model.specs.Words.{if_then_else_, _≤?_, _≡?_, any, isSome, Placed, Checked, Checked.fine, Checked.refused, passed, _>>_, allPass, Step, Step.met, Step.stuck, walkTo, inTurn}
-use Rattle.model.specs.Bytes.{_!_, part}
+use Rattle.model.specs.Words.{if_then_else_, _≡?_, isSome, Placed, Checked, Checked.fine, Checked.refused, _>>_, allPass, Step, Step.met, Step.stuck, walkTo, inTurn}
+use Rattle.model.specs.Bytes.{part}
 use Rattle.model.specs.Item.{isFine, found}
-use Rattle.model.specs.Seek.{Entry, Entry.start, Entry.stop, Entry.phrase, Entry.order, tag, rank, entryAt, followed, entryMet, entryStep, inOrder, seekOf, phraseOf}
+use Rattle.model.specs.Seek.{Entry, Entry.start, Entry.stop, Entry.phrase, Entry.order, entryAt, followed, entryMet, entryStep, inOrder, seekOf, phraseOf}
 use Rattle.model.specs.Item.{Item}
-use Rattle.model.specs.Points.{isAddress, isPosition, pointHolds, pointsHold, lettersNamed, lettersHold, orderHolds}
+use Rattle.model.specs.Points.{isAddress, isPosition, pointsHold, lettersNamed, lettersHold, orderHolds}
 use Rattle.model.specs.Track.{pointWidth, pointsOf}
 use Rattle.model.specs.declared.Event.{Event}
 use Rattle.model.specs.declared.ReadEntry.{ReadEntry}
@@ -19,7 +19,7 @@ use Rattle.model.proofs.Parts.{part-short}
 use Rattle.model.proofs.Tests.{if-all, if-true, if-false, by-test}
 use Rattle.model.proofs.Walks.{Stand, GoesOn, refused-within}
 use Rattle.seek.proofs.Ahead.{entry-goes}
-use Rattle.seek.proofs.Standing.{Standing, standing-starts}
+use Rattle.seek.proofs.Standing.{standing-starts}
 
 -- what stands at a place has that place, and what cannot be read there is refused there; an order list is a part of the body
 abbrev LettersIn : List ℕ → Entry → Type 0

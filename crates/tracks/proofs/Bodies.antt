@@ -1,13 +1,13 @@
 -- The sequence body and the seek body of a track: what their checks answer, and that their refusals are near.
 use Prim.Native.Nat.{ℕ, _+_, _≤_}
 use mathlib.Core.Path.{_≡_, refl, sym, _∙_, ap, subst}
-use mathlib.Core.Bool.{Bool, true, false}
+use mathlib.Core.Bool.{Bool, true}
 use mathlib.Core.List.{List}
-use lib.ListN.{length, length-take}
+use lib.ListN.{length}
 use native.Mathlib.Omega.{arith}
 use Rattle.model.specs.Words.{Placed, Checked, Checked.fine, Checked.refused, _>>=_, _>>_, countedFrom}
 use Rattle.model.specs.Bytes.{part}
-use Rattle.model.specs.Item.{Item, isFine, found, bodyOf, itemsOf, bodyAnswer, checkAnswer}
+use Rattle.model.specs.Item.{Item, isFine, found, bodyOf, bodyAnswer, checkAnswer}
 use Rattle.model.specs.Seek.{Entry, seekOf}
 use Rattle.model.specs.Track.{pointWidth, pointsOf, seekIn, entriesOf}
 use Rattle.model.specs.declared.Voice.{Voice}
@@ -20,7 +20,7 @@ use Rattle.model.specs.declared.FoundChunk.{FoundChunk}
 use Rattle.model.specs.declared.FoundChunk.the-variants.{At, Nowhere}
 use Rattle.model.proofs.Parts.{part-within}
 use Rattle.tracks.specs.Stages.{bareOf, Inside, Near, moved}
-use Rattle.model.proofs.Answers.{answer-refused, answer-passed, bind-passed, bind-refused}
+use Rattle.model.proofs.Answers.{answer-passed, bind-passed, bind-refused}
 use Rattle.items.proofs.Within.{body-refused-within}
 use Rattle.seek.proofs.Within.{form-refused-within, points-refused-within}
 use Rattle.tracks.proofs.Answers.{answer-moved, answer-near}

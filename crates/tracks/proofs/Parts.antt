@@ -3,8 +3,7 @@ use Prim.Native.Nat.{ℕ, _+_, _-_, _≤_}
 use mathlib.Core.Path.{_≡_, refl, sym, _∙_, ap, subst}
 use mathlib.Core.Bool.{Bool, true, false}
 use mathlib.Core.List.{List}
-use mathlib.Core.Option.{Option, none, some}
-use lib.ListN.{length, take, drop, length-take}
+use lib.ListN.{length, take, drop}
 use native.Mathlib.Omega.{arith}
 use mir.Val.{Fits}
 use mir.Syntax.{w64}
@@ -27,7 +26,7 @@ use Rattle.model.specs.declared.Check.the-variants as check
 use Rattle.model.specs.declared.FoundChunk.{FoundChunk}
 use Rattle.model.specs.declared.FoundChunk.the-variants.{At, Nowhere}
 use Rattle.model.proofs.Parts.{part-within}
-use Rattle.tracks.specs.Stages.{bare, bareOf, Inside, Near, moved}
+use Rattle.tracks.specs.Stages.{bareOf, Inside, Near, moved}
 use Rattle.items.proofs.Within.{setup-refused-within}
 use Rattle.tracks.proofs.Answers.{answer-moved, answer-done, answer-near}
 

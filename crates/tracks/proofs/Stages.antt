@@ -1,5 +1,5 @@
 -- The checks of a track from one of them on: what each answers where the one before it is known.
-use Prim.Native.Nat.{ℕ, _+_, _<_, _≤_}
+use Prim.Native.Nat.{ℕ, _+_, _≤_}
 use mathlib.Core.Path.{_≡_, refl, sym, _∙_, ap, subst}
 use mathlib.Core.Bool.{Bool, true, false, not}
 use mathlib.Core.List.{List, [], _∷_}
@@ -7,15 +7,14 @@ use mathlib.Core.Option.{Option, none, some}
 use lib.ListN.{length}
 use native.Mathlib.Omega.{arith}
 use borrow.Author.Tests.{ltb-false, not-true, not-false}
-use Rattle.model.specs.Words.{if_then_else_, _<?_, _≡?_, first, Placed, Checked, Checked.fine, Checked.refused, passed, _>>=_, _>>_, countedFrom, Step, Step.met}
+use Rattle.model.specs.Words.{if_then_else_, _<?_, _≡?_, first, Placed, Checked, Checked.fine, Checked.refused, passed, _>>=_, _>>_, countedFrom, Step.met}
 use Rattle.model.specs.Bytes.{_!_, part}
 use Rattle.model.specs.Item.{Item, isFine, found, bodyOf, itemsOf, checkAnswer}
-use Rattle.model.specs.Chunk.{Chunk, bodyPlace, placeAfter, readChunk, chunkMet, chunkStep, chunkList, foundChunk}
-use Rattle.model.specs.Track.{Track, fixedSize, fixedHolds, isAllowed, partId, partNamed, required, hasWaves, setupHolds, entriesOf, trackOf}
+use Rattle.model.specs.Chunk.{Chunk, readChunk, chunkMet, chunkStep, chunkList, foundChunk}
+use Rattle.model.specs.Track.{Track, fixedHolds, isAllowed, partId, partNamed, required, hasWaves, setupHolds, entriesOf, trackOf}
 use Rattle.model.specs.declared.Voice.{Voice}
 use Rattle.model.specs.declared.Event.{Event}
 use Rattle.model.specs.declared.ListOf.the-variants as list
-use Rattle.model.specs.declared.Part.{Part}
 use Rattle.model.specs.declared.Part.the-variants as parts
 use Rattle.model.specs.declared.Check.{Check}
 use Rattle.model.specs.declared.Check.the-variants as check
@@ -26,7 +25,7 @@ use Rattle.model.specs.declared.FoundChunk.the-variants.{At, Nowhere}
 use Rattle.chunks.specs.Kept.{chunksIn}
 use Rattle.tracks.specs.Stages.{bare, bareOf, Inside, afterSetup, afterParts, partsThen}
 use Rattle.model.proofs.Tests.{if-all, if-true, by-test}
-use Rattle.model.proofs.Answers.{answer-refused, answer-passed, bind-refused, bind-passed, then-refused, then-passed, needs-yes, needs-no}
+use Rattle.model.proofs.Answers.{answer-passed, bind-refused, bind-passed, then-refused, then-passed, needs-yes, needs-no}
 use Rattle.model.proofs.Walks.{Stand, GoesOn, fine-found}
 use Rattle.chunks.proofs.Lists.{ChunkAhead, chunk-ahead, chunk-goes}
 use Rattle.chunks.proofs.Searches.{list-stands, checked-chunks}

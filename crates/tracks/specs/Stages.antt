@@ -2,13 +2,12 @@
 -- of a track from one of them on. A track is refused by the first of these that refuses.
 use Prim.Native.Nat.{ℕ, _+_, _≤_}
 use mathlib.Core.List.{List}
-use mathlib.Core.Bool.{Bool, true, false}
 use mathlib.Core.Option.{Option, none, some}
 use lib.ListN.{length}
-use Rattle.model.specs.Words.{if_then_else_, _≡?_, Placed, Checked, Checked.fine, Checked.refused, passed, _>>=_, _>>_, countedFrom}
+use Rattle.model.specs.Words.{if_then_else_, _≡?_, Checked, Checked.fine, Checked.refused, passed, _>>=_, _>>_, countedFrom}
 use Rattle.model.specs.Bytes.{_!_}
 use Rattle.model.specs.Chunk.{Chunk, bodyPlace, placeAfter, bodyBytes, chunkList}
-use Rattle.model.specs.Item.{Item, bodyOf}
+use Rattle.model.specs.Item.{bodyOf}
 use Rattle.model.specs.Track.{Track, fixedSize, isAllowed, partId, partNamed, required, hasWaves, setupHolds, entriesOf, placeOfD, placeOfG}
 use Rattle.model.specs.declared.Voice.{Voice}
 use Rattle.model.specs.declared.Check.{Check}

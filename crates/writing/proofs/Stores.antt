@@ -1,9 +1,9 @@
 -- A stretch copied into lent memory: what is still to be stored makes the whole.
 use Prim.Native.Nat.{ℕ, suc, _+_, _-_, _<_, _≤_}
-use mathlib.Core.List.{List, _∷_}
+use mathlib.Core.List.{List}
 use mathlib.Core.Path.{_≡_, refl, sym, _∙_, ap}
-use lib.ListN.{length, take, set, getD, length-set, length-take, length-drop}
-use lib.Seq.{sets, drop-cons}
+use lib.ListN.{length, set, getD, length-set}
+use lib.Seq.{sets}
 use native.Mathlib.Nat.{add-zero, sub-zero}
 use native.Mathlib.Omega.{arith}
 use Rattle.model.specs.Bytes.{part}

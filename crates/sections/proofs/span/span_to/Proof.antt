@@ -9,4 +9,4 @@ unfolding spanTo
 returns c = search needs
 
 pub span-to-spec : {M : Type 1} → statement M
-span-to-spec = tie.close (tie.spec (λ c. search needs) (λ c. search needs) returns)
+span-to-spec = tie.close (tie.spec (λ c. search needs) (λ c. search needs) (λ c κs. search needs) returns)
