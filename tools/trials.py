@@ -8,7 +8,7 @@ import shutil
 import subprocess
 
 FUNCTION = re.compile(r'^( *)(?:pub )?(?:extern "C" )?fn (\w+)')
-OWN_FACT = re.compile(r'/proofs/([\w/]+)/Proof\.antt:\d+:\d+: error: ')
+OWN_FACT = re.compile(r'/proofs/([\w/+]+)/Proof\.antt:\d+:\d+: error: ')
 OWN_SEARCH = re.compile(r'^fn \w+::([\w:]+): .*`search` does not close')
 OWN_PROOF = re.compile(r'^fn \w+::([\w:]+): proved$', re.M)
 MISTAKE = re.compile(r'^ *--> (?:.*/)?(crates/\w+/src/\w+\.rt):(\d+):', re.M)
@@ -33,8 +33,8 @@ def functions(lines):
 
 
 def full_name(parts):
-    """A function's module and name, as the check's lines and its files have them; without the type that it belongs to."""
-    return '::'.join(part for part in parts if part not in ('lib', 'main') and not part[0].isupper())
+    """A function's module and name, as the check's lines and its files have them; without the type that it belongs to, and the sign of one that calls itself."""
+    return '::'.join(part.lstrip('+') for part in parts if part not in ('lib', 'main') and not part[0].isupper())
 
 
 class Piece:
