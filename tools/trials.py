@@ -11,7 +11,7 @@ FUNCTION = re.compile(r'^( *)(?:pub )?(?:extern "C" )?fn (\w+)')
 OWN_FACT = re.compile(r'/proofs/([\w/+]+)/Proof\.antt:\d+:\d+: error: ')
 OWN_SEARCH = re.compile(r'^fn \w+::([\w:]+): .*`search` does not close')
 OWN_PROOF = re.compile(r'^fn \w+::([\w:]+): proved$', re.M)
-MISTAKE = re.compile(r'^ *--> (?:.*/)?(crates/\w+/src/\w+\.rt):(\d+):', re.M)
+MISTAKE = re.compile(r'(crates/\w+/src/\w+\.rt):(\d+):\d+: error\[')
 OTHER_SHAPE = 'can be named from here', 'was not admitted', 'this pattern needs', 'not in scope', 'has no field', 'expected type `tie.Need-'
 
 

@@ -1,23 +1,10 @@
 // `l`: the listing of a buffer, and whether it kept the rest of its room.
+use super::plain_forms::BLANK;
+use super::plain_forms::is_room_kept;
 use super::rows::put_kept;
 use model::Listed;
 use text::put;
 use text::put_byte;
-
-// What the room holds before a listing.
-const BLANK: u8 = 0xA5;
-
-// Whether the room is as it was from a place on.
-fn is_kept_past(room: &[u8], place: usize) -> bool {
-    let mut i = place;
-    while i < room.len() {
-        if room[i] != BLANK {
-            return false;
-        }
-        i += 1;
-    }
-    true
-}
 
 fn put_listed(page: &mut [u8], used: usize, room: &[u8], size: usize) -> usize {
     let mut now = used;
@@ -29,7 +16,7 @@ fn put_listed(page: &mut [u8], used: usize, room: &[u8], size: usize) -> usize {
         now = put_byte(page, now, room[i]);
         i += 1;
     }
-    put_kept(page, now, is_kept_past(room, size))
+    put_kept(page, now, is_room_kept(room, size))
 }
 
 pub fn answer_list(page: &mut [u8], used: usize, buffer: &[u8]) -> usize {

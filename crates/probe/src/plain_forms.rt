@@ -8,7 +8,7 @@ use text::put_hex;
 use text::put_refusal;
 
 // What the room holds before it is lent.
-const BLANK: u8 = 0xA5;
+pub const BLANK: u8 = 0xA5;
 
 fn blank_room(room: &mut [u8]) {
     let mut i: usize = 0;
@@ -19,7 +19,7 @@ fn blank_room(room: &mut [u8]) {
 }
 
 // Whether the room is as it was from a place on.
-fn is_room_kept(room: &[u8], place: usize) -> bool {
+pub fn is_room_kept(room: &[u8], place: usize) -> bool {
     let mut i = place;
     while i < room.len() {
         if room[i] != BLANK {
