@@ -9,4 +9,5 @@ mod operation;
 mod rows;
 mod top;
 
+pub use first::first_track;
 pub use operation::list;

@@ -1,10 +1,8 @@
-// The borders of a phrase track's sections, each with its letter: where the order list is played, as the proved plan of it says.
+// The borders of a phrase track's sections, each with its letter: where the order list is played, by the proved span of each letter.
 ghost use mathlib.Core.Path.{_≡_};
 ghost use mathlib.Core.Bool.{true};
 ghost use Prim.Native.Nat.{_≤_};
 ghost use lib.ListN.{length};
-ghost use Rattle.model.specs.Item.{isFine};
-ghost use Rattle.model.specs.File.{contentsOf};
 ghost use Rattle.playing.specs.Performing.{entriesSaid, Inside, Named, Ready};
 use super::frame::later;
 use super::page::Layout;
@@ -13,8 +11,6 @@ use super::page::milliseconds;
 use super::page::put_pair;
 use super::page::tenths;
 use model::Bodies;
-use model::Counted;
-use model::OpenedTrack;
 use model::Span;
 use model::Voice;
 use text::put;
@@ -146,7 +142,7 @@ fn draw_phrases(
     )
 }
 
-fn draw_bodies(
+pub fn draw_borders(
     page: &mut [u8],
     used: usize,
     layout: Layout,
@@ -166,41 +162,4 @@ fn draw_bodies(
         return draw_phrases(page, used, layout, base, voice, body, seek);
     }
     used
-}
-
-fn draw_track(
-    page: &mut [u8],
-    used: usize,
-    layout: Layout,
-    base: u64,
-    file: &[u8],
-    row: usize,
-) -> usize
-    requires { ⌜ length (now file) ≤ 65536 ⌝ }
-    requires { ⌜ isFine (contentsOf (now file)) ≡ true ⌝ }
-{
-    match playing::open_track(file, row) {
-        OpenedTrack::At(bodies) => draw_bodies(page, used, layout, base, file, bodies),
-        OpenedTrack::Nowhere => used,
-    }
-}
-
-pub fn draw_borders(
-    page: &mut [u8],
-    used: usize,
-    layout: Layout,
-    base: u64,
-    file: &[u8],
-    row: usize,
-) -> usize {
-    if 65536 < file.len() {
-        return used;
-    }
-    match reading::check_file(file) {
-        Counted::Rows { count: _ } => draw_track(page, used, layout, base, file, row),
-        Counted::Refused {
-            number: _,
-            place: _,
-        } => used,
-    }
 }

@@ -7,75 +7,31 @@ mod notes;
 mod page;
 mod refusal;
 
+ghost use mathlib.Core.Path.{_≡_};
+ghost use mathlib.Core.Bool.{true};
+ghost use Prim.Native.Nat.{_≤_};
+ghost use lib.ListN.{length};
+ghost use Rattle.model.specs.Item.{isFine};
+ghost use Rattle.model.specs.File.{contentsOf};
+ghost use Rattle.playing.specs.Performing.{Inside};
 use borders::draw_borders;
 use frame::draw_frame;
 use frame::layout_of;
 use messages::look_over;
+use model::Bodies;
+use model::Counted;
+use model::FirstTrack;
 use model::FoundTimeBase;
+use model::OpenedTrack;
 use model::PlayAnswer;
-use model::ReadAnswer;
 use model::TimeBase;
+use model::Voice;
 use notes::draw_messages;
 use page::Bases;
 use page::Played;
 use refusal::draw_refusal;
 use text::flush;
 use text::put;
-
-fn is_track(id: u32) -> bool {
-    let family = id / 256;
-    if family == 0x4D5452 {
-        return true;
-    }
-    family == 0x415452
-}
-
-// What playing the track of a row answers; 16 where the row is that of no track.
-fn play_row(file: &[u8], rows: &[u32], row: usize, steps: &mut [u64], words: &mut [u32]) -> Played {
-    if rows.len() / 4 <= row {
-        return page::unplayed(16, 0);
-    }
-    let id = rows[row * 4];
-    let place = rows[row * 4 + 1];
-    if !is_track(id) {
-        return page::unplayed(16, 0);
-    }
-    let answer = playing::play(file, file.len(), row, steps, words);
-    played_of(answer, row, place)
-}
-
-// The first track that can be read.
-fn play_first(
-    file: &[u8],
-    rows: &[u32],
-    count: usize,
-    steps: &mut [u64],
-    words: &mut [u32],
-) -> Played {
-    let mut row: usize = 1;
-    while row < count {
-        let played = play_row(file, rows, row, steps, words);
-        if played.number != 16 {
-            return played;
-        }
-        row += 1;
-    }
-    page::unplayed(16, 0)
-}
-
-fn played_of(answer: PlayAnswer, row: usize, place: u32) -> Played {
-    match answer {
-        PlayAnswer::Rows { count, end } => Played {
-            number: 0,
-            place: 0,
-            row,
-            header: place as usize,
-            count,
-            end,
-        },
-        PlayAnswer::Refused { number, place } => page::unplayed(number, place),
-    }
-}
 
 // Milliseconds of a step, by a time base's code; 1 where there is none, which no accepted track has.
 fn milliseconds_of(file: &[u8], at: usize) -> u64 {
@@ -88,18 +44,17 @@ fn milliseconds_of(file: &[u8], at: usize) -> u64 {
     }
 }
 
-// The time bases of the track whose header is at a place: of a score track its third and fourth byte, of a PCM track its fifth and sixth.
-fn bases_of(file: &[u8], header: usize) -> Bases {
+// The time bases of a track: of a score track the third and fourth byte after its header's eight, of a PCM track the fifth and sixth.
+fn bases_of(file: &[u8], bodies: Bodies) -> Bases {
+    let header = bodies.header;
     if 65536 < header {
         return Bases { step: 1, gate: 1 };
     }
-    if file.len() <= header {
-        return Bases { step: 1, gate: 1 };
+    let voice = bodies.voice;
+    match voice {
+        Voice::Score => bases_at(file, header + 10),
+        Voice::Pcm => bases_at(file, header + 12),
     }
-    if file[header] == b'A' {
-        return bases_at(file, header + 12);
-    }
-    bases_at(file, header + 10)
 }
 
 fn bases_at(file: &[u8], at: usize) -> Bases {
@@ -112,12 +67,22 @@ fn bases_at(file: &[u8], at: usize) -> Bases {
     }
 }
 
-fn draw_track(page: &mut [u8], file: &[u8], played: Played, steps: &[u64], words: &[u32]) {
-    let bases = bases_of(file, played.header);
+fn draw_track(
+    page: &mut [u8],
+    file: &[u8],
+    bodies: Bodies,
+    played: Played,
+    steps: &[u64],
+    words: &[u32],
+)
+    requires { ⌜ length (now file) ≤ 65536 ⌝ }
+    requires { ⌜ Inside (now file) bodies ⌝ }
+{
+    let bases = bases_of(file, bodies);
     let found = look_over(words, played.count);
     let layout = layout_of(played, bases, found);
     let used = draw_frame(page, 0, layout, found, played);
-    let used = draw_borders(page, used, layout, bases.step, file, played.row);
+    let used = draw_borders(page, used, layout, bases.step, file, bodies);
     let used = draw_messages(page, used, layout, bases, steps, words, played.count);
     draw_end(page, used);
 }
@@ -127,33 +92,73 @@ fn draw_end(page: &mut [u8], used: usize) {
     flush(page, used);
 }
 
-fn draw(page: &mut [u8], file: &[u8], rows: &mut [u32], steps: &mut [u64], words: &mut [u32]) {
-    match reading::read(file, file.len(), rows) {
-        ReadAnswer::Refused { number, place } => draw_refusal(page, number, place),
-        ReadAnswer::Rows {
-            count,
-            code: _,
-            matches: _,
-        } => {
-            let played = play_first(file, rows, count, steps, words);
-            if played.number != 0 {
-                draw_refusal(page, played.number, played.place);
-                return;
-            }
-            draw_track(page, file, played, steps, words);
-        }
+fn draw_opened(
+    page: &mut [u8],
+    file: &[u8],
+    row: usize,
+    bodies: Bodies,
+    steps: &mut [u64],
+    words: &mut [u32],
+)
+    requires { ⌜ length (now file) ≤ 65536 ⌝ }
+    requires { ⌜ Inside (now file) bodies ⌝ }
+{
+    match playing::play(file, file.len(), row, steps, words) {
+        PlayAnswer::Rows { count, end } => draw_track(
+            page,
+            file,
+            bodies,
+            Played { row, count, end },
+            steps,
+            words,
+        ),
+        PlayAnswer::Refused { number, place } => draw_refusal(page, number, place),
+    }
+}
+
+fn draw_row(page: &mut [u8], file: &[u8], row: usize, steps: &mut [u64], words: &mut [u32])
+    requires { ⌜ length (now file) ≤ 65536 ⌝ }
+    requires { ⌜ isFine (contentsOf (now file)) ≡ true ⌝ }
+{
+    match playing::open_track(file, row) {
+        OpenedTrack::At(bodies) => draw_opened(page, file, row, bodies, steps, words),
+        OpenedTrack::Nowhere => draw_refusal(page, 16, 0),
+    }
+}
+
+// The first readable track, the one that the listing lists.
+fn draw_first(page: &mut [u8], file: &[u8], steps: &mut [u64], words: &mut [u32])
+    requires { ⌜ length (now file) ≤ 65536 ⌝ }
+    requires { ⌜ isFine (contentsOf (now file)) ≡ true ⌝ }
+{
+    match lines::first_track(file) {
+        FirstTrack::At {
+            row,
+            milliseconds: _,
+        } => draw_row(page, file, row, steps, words),
+        FirstTrack::Nowhere => draw_refusal(page, 16, 0),
+    }
+}
+
+fn draw(page: &mut [u8], file: &[u8], steps: &mut [u64], words: &mut [u32]) {
+    if 65536 < file.len() {
+        draw_refusal(page, 1, 0);
+        return;
+    }
+    match reading::check_file(file) {
+        Counted::Refused { number, place } => draw_refusal(page, number, place),
+        Counted::Rows { count: _ } => draw_first(page, file, steps, words),
     }
 }
 
 fn main() {
     let mut page = [0u8; 65536];
     let mut file = [0u8; 65537];
-    let mut rows = [0u32; 32768];
     let mut steps = [0u64; 65536];
     let mut words = [0u32; 65536];
     let n = io::read_full(0, &mut file);
     if file.len() < n {
         return;
     }
-    draw(&mut page, &file[..n], &mut rows, &mut steps, &mut words);
+    draw(&mut page, &file[..n], &mut steps, &mut words);
 }

@@ -3,25 +3,11 @@ use text::put;
 use text::put_byte;
 use text::put_decimal;
 
-// What a play answered: a refusal, where its number is not 0; else the track's row and header, how many messages it plays, and its end.
+// What is played: the row of a track, how many messages it plays, and its end.
 pub struct Played {
-    pub number: u32,
-    pub place: usize,
     pub row: usize,
-    pub header: usize,
     pub count: usize,
     pub end: u64,
-}
-
-pub fn unplayed(number: u32, place: usize) -> Played {
-    Played {
-        number,
-        place,
-        row: 0,
-        header: 0,
-        count: 0,
-        end: 0,
-    }
 }
 
 // Milliseconds of a step of time, and of one of gate time.
