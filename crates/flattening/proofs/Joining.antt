@@ -12,7 +12,7 @@ use Rattle.model.specs.Content.{Content, contentOf, contentBytes, handyPhone}
 use Rattle.model.specs.Writing.{timedBytes}
 use Rattle.model.specs.declared.Event.{Event}
 use Rattle.plain.proofs.PlainItems.{bytes-append}
-use Rattle.flattening.specs.Parts.{plainPart, lastStep, told, partBytes, messageBytes, gapBytes, gapSize, bytesAfterGap}
+use Rattle.flattening.specs.Parts.{plainPart, lastStep, told, partBytes, messageBytes, gapBytes, bytesAfterGap}
 
 -- THE PARTS MAKE THE WHOLE: the messages of a part, then those after it
 pub plain-append : (past : ℕ) (one two : List (At Content)) (end : ℕ)
@@ -50,10 +50,6 @@ pub part-first : (body : List ℕ) (past step : ℕ) (event : Event) (rows : Lis
 unfolding partBytes told messageBytes timedBytes itemBytes
 part-first body past step event rows = first-bytes past (record { step = step; event = contentOf body event }) (told body rows)
 
-pub gap-length : (gap : ℕ) → length (gapBytes gap) ≡ gapSize gap
-unfolding gapBytes gapSize
-gap-length gap = length-append (bytesOf handyPhone (waits handyPhone gap)) (durationBytes (left 16511 gap))
-
 -- the gap to the first message of a part, and what is written after it
 pub first-after-gap : (past : ℕ) (at : At Content) (messages : List (At Content))
     → bytesOf handyPhone (plainPart past (at ∷ messages)) ≡ gapBytes (at .step - past) ++ bytesAfterGap (at ∷ messages)
@@ -74,7 +70,7 @@ after-gap-length at messages = length-append (contentBytes (at .event)) (bytesOf
 
 pub first-length : (past : ℕ) (at : At Content) (messages : List (At Content))
     → length (bytesOf handyPhone (plainPart past (at ∷ messages)))
-    ≡ gapSize (at .step - past) + (length (contentBytes (at .event)) + length (bytesOf handyPhone (plainPart (at .step) messages)))
+    ≡ length (gapBytes (at .step - past)) + (length (contentBytes (at .event)) + length (bytesOf handyPhone (plainPart (at .step) messages)))
 first-length past at messages =
     ap length (first-after-gap past at messages)
-    ∙ omega (arith, length-append (gapBytes (at .step - past)) (bytesAfterGap (at ∷ messages)), gap-length (at .step - past), after-gap-length at messages)
+    ∙ omega (arith, length-append (gapBytes (at .step - past)) (bytesAfterGap (at ∷ messages)), after-gap-length at messages)

@@ -17,8 +17,8 @@ use Rattle.model.specs.declared.Outline.{Outline}
 use Rattle.model.specs.declared.Span.{Span}
 use Rattle.model.proofs.Tests.{by-test}
 use Rattle.sections.specs.Spans.{Items, messagesAfter, itemsFrom, counted, spanRows, Rising, SpanRises}
-use Rattle.flattening.specs.Parts.{plainPart, lastStep, told, partBytes, partLast, gapBytes, gapSize, shapeOf, spanShape, bytesAfterGap, spanBytes, silence, joined, shaped}
-use Rattle.flattening.proofs.Joining.{gap-length, first-after-gap, after-gap-length, first-length}
+use Rattle.flattening.specs.Parts.{plainPart, lastStep, told, partBytes, partLast, gapBytes, shapeOf, spanShape, bytesAfterGap, spanBytes, silence, joined, shaped}
+use Rattle.flattening.proofs.Joining.{first-after-gap, after-gap-length, first-length}
 
 -- rows joined to an outline one after the other
 unfoldable pub outlined : List ℕ → Outline → List (At Event) → Outline
@@ -37,7 +37,7 @@ module _ (s : List ℕ) where
   heard-outlined lead bytes last [] = ap (heardAt lead last) (sym (add-zero bytes))
   heard-outlined lead bytes last (row ∷ rows) =
       let size = length (contentBytes (contentOf s (row .event))) in
-      let gap = gapSize (row .step - last) in
+      let gap = length (gapBytes (row .step - last)) in
       let more = length (bytesOf handyPhone (plainPart (row .step) (told s rows))) in
       let here : At Content = record { step = row .step; event = contentOf s (row .event) } in
       let whole : bytes + (gap + size) + more ≡ bytes + length (bytesOf handyPhone (plainPart last (here ∷ told s rows))) =
@@ -127,10 +127,10 @@ module _ (s : List ℕ) (items : Items) (span : Span) (before past : ℕ) where
 
     -- how many they are
     pub span-size : length (partBytes s past (spanRows items span before))
-        ≡ gapSize (before + spanShape s items span .lead - past) + spanShape s items span .bytes
+        ≡ length (gapBytes (before + spanShape s items span .lead - past)) + spanShape s items span .bytes
     span-size =
         let gap = before + spanShape s items span .lead - past in
-        ap length span-bytes ∙ omega (arith, length-append (gapBytes gap) (spanBytes s items span), gap-length gap, span-counted s items span)
+        ap length span-bytes ∙ omega (arith, length-append (gapBytes gap) (spanBytes s items span), span-counted s items span)
 
     -- from the last message to the end of the span
     pub span-tail : before + span .lasts - partLast s past (spanRows items span before) ≡ spanShape s items span .tail

@@ -25,7 +25,7 @@ use Rattle.writing.proofs.Contents.{event-length}
 use Rattle.items.proofs.Addresses.{timed-nears, mark-nears}
 use Rattle.sections.specs.Spans.{spanRows, Playable}
 use Rattle.sections.proofs.Ahead.{Ahead, Onward, next-rows, message-next, nop-next, mark-next, playable-begins, span-begins, in-time, in-place, none-ahead, timed-late, timed-onward, mark-onward, never-refused}
-use Rattle.flattening.specs.Parts.{gapSize, spanShape, silence, joined, shaped}
+use Rattle.flattening.specs.Parts.{gapBytes, spanShape, silence, joined, shaped}
 use Rattle.flattening.proofs.Fitting.{read-fits}
 use Rattle.flattening.proofs.Shapes.{outlined, outline-shapes}
 
@@ -35,11 +35,11 @@ module _ (outline : Outline) (step size found : ℕ) where
   unfolding joined if_then_else_
   joined-first silent p = simp silent (ap (λ (n : ℕ). record { heard = true; lead = step; bytes = n; last = step }) p)
 
-  pub joined-next : (gap : ℕ) → outline .heard ≡ true → found ≡ size → gap ≡ gapSize (step - outline .last)
+  pub joined-next : (gap : ℕ) → outline .heard ≡ true → found ≡ size → gap ≡ length (gapBytes (step - outline .last))
       → record { heard = true; lead = outline .lead; bytes = outline .bytes + (gap + found); last = step } ≡ joined outline step size
   unfolding joined if_then_else_
   joined-next gap loud p q =
-      let both : outline .bytes + (gap + found) ≡ outline .bytes + (gapSize (step - outline .last) + size) = omega arith in
+      let both : outline .bytes + (gap + found) ≡ outline .bytes + (length (gapBytes (step - outline .last)) + size) = omega arith in
       simp loud (ap (λ (n : ℕ). record { heard = true; lead = outline .lead; bytes = n; last = step }) both)
 
 pub ruleset joins = (joined-first, joined-next)

@@ -23,7 +23,7 @@ use Rattle.sections.specs.Spans.{Items, spanRows, Playable}
 use Rattle.playing.specs.Performing.{spanAt, AllPlayable, AllRise, AllShort}
 use Rattle.playing.proofs.Tables.{Table, Known, table-starts}
 use Rattle.flattening.specs.declared.Size.{Size}
-use Rattle.flattening.specs.Parts.{gapSize, spanShape, partBytes, partLast, told, shapeOf}
+use Rattle.flattening.specs.Parts.{gapBytes, spanShape, partBytes, partLast, told, shapeOf}
 use Rattle.flattening.specs.Orders.{orderBytes, noShape, shapeAt, addShape, wholeSize, Slight, Measured}
 use Rattle.flattening.proofs.Telling.{none-told, none-last}
 use Rattle.flattening.proofs.Shapes.{span-size, span-tail, span-silent, span-lead-within, span-tail-within, last-within}
@@ -31,11 +31,11 @@ use Rattle.flattening.proofs.Ordering.{order-none-length, order-next-le
 
 -- one section more, whether it is heard or silent
 module _ (size : Size) (shape : Shape) where
-  add-heard : shape .heard ≡ true → record { bytes = size .bytes + (gapSize (size .gap + shape .lead) + shape .bytes); gap = shape .tail } ≡ addShape size shape
+  add-heard : shape .heard ≡ true → record { bytes = size .bytes + (length (gapBytes (size .gap + shape .lead)) + shape .bytes); gap = shape .tail } ≡ addShape size shape
   unfolding addShape
   add-heard h = sym (if-true (shape .heard) _ _ h)
 
-  pub add-after : (gap : ℕ) → shape .heard ≡ true → gap ≡ gapSize (size .gap + shape .lead)
+  pub add-after : (gap : ℕ) → shape .heard ≡ true → gap ≡ length (gapBytes (size .gap + shape .lead))
       → record { bytes = size .bytes + (gap + shape .bytes); gap = shape .tail } ≡ addShape size shape
   add-after gap h e = ap (λ (n : ℕ). record { bytes = size .bytes + (n + shape .bytes); gap = shape .tail }) e ∙ add-heard h
 
@@ -72,7 +72,7 @@ module _ (s : List ℕ) (items : Items) (span : Span) (size : Size) (past before
       let lead : size .gap + shape .lead ≡ before + shape .lead - past = omega (arith, gap) in
       sym (add-heard size shape h)
       ∙ ap₂ (λ (n t : ℕ). record { bytes = size .bytes + n; gap = t })
-      (ap (λ (g : ℕ). gapSize g + shape .bytes) lead ∙ sym (span-size s items span before past h)) (sym (span-tail s items span before past h))
+      (ap (λ (g : ℕ). length (gapBytes g) + shape .bytes) lead ∙ sym (span-size s items span before past h)) (sym (span-tail s items span before past h))
 
   silent-adds : spanShape s items span .heard ≡ false → addShape size (spanShape s items span) ≡ added
   silent-adds h =

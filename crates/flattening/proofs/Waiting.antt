@@ -15,7 +15,7 @@ use Rattle.model.proofs.Tests.{by-test}
 use Rattle.model.proofs.Stores.{sets-append}
 use Rattle.plain.proofs.Gaps.{left-short, waits-none, waits-more}
 use Rattle.plain.proofs.PlainItems.{bytes-append}
-use Rattle.flattening.specs.Parts.{gapBytes, gapSize}
+use Rattle.flattening.specs.Parts.{gapBytes}
 
 abbrev waitBytes : List ℕ
 waitBytes = 0xFF ∷ 0x7F ∷ 0xFF ∷ 0x00 ∷ []
@@ -61,13 +61,16 @@ waits-length : (gap : ℕ) → length (waitsBytes gap) ≡ times 16511 gap * 4
 unfolding waits
 waits-length gap = repeated-length (times 16511 gap)
 
+gap-length : (gap : ℕ) → length (gapBytes gap) ≡ length (waitsBytes gap) + length (durationBytes (left 16511 gap))
+unfolding gapBytes
+gap-length gap = length-append (waitsBytes gap) (durationBytes (left 16511 gap))
+
 module _ (gap : ℕ) where
   pub waits-sized : (n : ℕ) → n ≡ times 16511 gap → n * 4 ≡ length (waitsBytes gap)
   waits-sized n is = ap (λ (m : ℕ). m * 4) is ∙ sym (waits-length gap)
 
-  pub gap-sized : (n d v : ℕ) → n ≡ length (waitsBytes gap) → v ≡ left 16511 gap → d ≡ length (durationBytes v) → n + d ≡ gapSize gap
-  unfolding gapSize
-  gap-sized n d v p q r = omega (arith, p, r ∙ ap (λ (x : ℕ). length (durationBytes x)) q)
+  pub gap-sized : (n d v : ℕ) → n ≡ length (waitsBytes gap) → v ≡ left 16511 gap → d ≡ length (durationBytes v) → n + d ≡ length (gapBytes gap)
+  gap-sized n d v p q r = omega (arith, gap-length gap, p, r ∙ ap (λ (x : ℕ). length (durationBytes x)) q)
 
   -- a rest that is written with the waits alone, and one with a last part
   rest-none : left 16511 gap ≡ 0 → rest handyPhone gap ≡ waits handyPhone gap
@@ -144,21 +147,18 @@ pub ruleset waiting = (wait-starts, wait-room, wait-again, wait-ends, wait-whole
 
 -- a gap, written: the waits, and the duration that is left
 module _ (l : List ℕ) (at gap : ℕ) where
-  pub gap-waits-room : at + gapSize gap ≤ length l → at + length (waitsBytes gap) ≤ length l
-  unfolding gapSize
-  gap-waits-room room = omega arith
+  pub gap-waits-room : at + length (gapBytes gap) ≤ length l → at + length (waitsBytes gap) ≤ length l
+  gap-waits-room room = omega (arith, gap-length gap)
 
   module _ (v middle : ℕ) (is : v ≡ left 16511 gap) (after : middle ≡ at + length (waitsBytes gap)) where
     lasting : length (durationBytes v) ≡ length (durationBytes (left 16511 gap))
     lasting = ap (λ (x : ℕ). length (durationBytes x)) is
 
-    pub gap-duration-room : (k : List ℕ) → at + gapSize gap ≤ length l → length k ≡ length l → middle + length (durationBytes v) ≤ length k
-    unfolding gapSize
-    gap-duration-room k room same = omega (arith, lasting)
+    pub gap-duration-room : (k : List ℕ) → at + length (gapBytes gap) ≤ length l → length k ≡ length l → middle + length (durationBytes v) ≤ length k
+    gap-duration-room k room same = omega (arith, gap-length gap, lasting)
 
-    pub gap-next : (n : ℕ) → n ≡ middle + length (durationBytes v) → n ≡ at + gapSize gap
-    unfolding gapSize
-    gap-next n e = omega (arith, lasting)
+    pub gap-next : (n : ℕ) → n ≡ middle + length (durationBytes v) → n ≡ at + length (gapBytes gap)
+    gap-next n e = omega (arith, gap-length gap, lasting)
 
     pub gap-wrote : (k m : List ℕ) → k ≡ sets l at (waitsBytes gap) → m ≡ sets k middle (durationBytes v) → m ≡ sets l at (gapBytes gap)
     unfolding gapBytes

@@ -14,18 +14,16 @@ use Rattle.model.specs.declared.Span.{Span}
 use Rattle.model.proofs.Stores.{sets-append}
 use Rattle.sections.specs.Spans.{Items, spanRows, SpanRises}
 use Rattle.sections.proofs.Copying.{part-before, part-stored}
-use Rattle.flattening.specs.Parts.{partBytes, partLast, gapBytes, gapSize, spanShape, spanBytes, Written, WrittenWhereKnown}
-use Rattle.flattening.proofs.Joining.{gap-length}
+use Rattle.flattening.specs.Parts.{partBytes, partLast, gapBytes, spanShape, spanBytes, Written, WrittenWhereKnown}
 use Rattle.flattening.proofs.Telling.{none-told, none-last}
 use Rattle.flattening.proofs.Shapes.{span-bytes, span-size, span-tail, span-silent, span-counted, span-ends, span-lead-within, span-tail-within, last-within}
 
 -- a gap, and bytes that are copied after it
-pub copy-wrote : (l k m : List ℕ) (at gap from count middle : ℕ) → from + count ≤ at → middle ≡ at + gapSize gap → k ≡ sets l at (gapBytes gap)
+pub copy-wrote : (l k m : List ℕ) (at gap from count middle : ℕ) → from + count ≤ at → middle ≡ at + length (gapBytes gap) → k ≡ sets l at (gapBytes gap)
     → m ≡ sets k middle (part k from count) → m ≡ sets l at (gapBytes gap ++ part l from count)
 copy-wrote l k m at gap from count middle behind after p q =
-    let there : middle ≡ at + length (gapBytes gap) = omega (arith, gap-length gap) in
     let same : part k from count ≡ part l from count = ap (λ (x : List ℕ). part x from count) p ∙ part-before l from count at (gapBytes gap) behind in
-    q ∙ ap (sets k middle) same ∙ rw (p, there) (sets-append l at (gapBytes gap) (part l from count))
+    q ∙ ap (sets k middle) same ∙ rw (p, after) (sets-append l at (gapBytes gap) (part l from count))
 
 module _ (s : List ℕ) (items : Items) (span : Span) (shape : Shape) (is : shape ≡ spanShape s items span) (before past : ℕ) where
   abbrev rows : List (At Event)
@@ -65,10 +63,10 @@ module _ (s : List ℕ) (items : Items) (span : Span) (shape : Shape) (is : shap
     bytes-are : shape .bytes ≡ length (spanBytes s items span)
     bytes-are = ap (λ (x : Shape). x .bytes) is ∙ sym (span-counted s items span)
 
-    many : length (partBytes s past (spanRows items span before)) ≡ gapSize (before - past + shape .lead) + shape .bytes
+    many : length (partBytes s past (spanRows items span before)) ≡ length (gapBytes (before - past + shape .lead)) + shape .bytes
     many =
         span-size s items span before past loud
-        ∙ ap₂ (λ (g n : ℕ). gapSize g + n) (sym gap-is) (sym (ap (λ (x : Shape). x .bytes) is))
+        ∙ ap₂ (λ (g n : ℕ). length (gapBytes g) + n) (sym gap-is) (sym (ap (λ (x : Shape). x .bytes) is))
 
     pub again-past : (last : ℕ) → SpanRises items span → last ≡ before + span .lasts - shape .tail → last ≡ partLast s past (spanRows items span before)
     again-past last rises e =
@@ -76,10 +74,10 @@ module _ (s : List ℕ) (items : Items) (span : Span) (shape : Shape) (is : shap
 
     module _ (out : List ℕ) (at : ℕ) where
       pub again-room : at + length (partBytes s past (spanRows items span before)) ≤ length out
-          → at + (gapSize (before - past + shape .lead) + shape .bytes) ≤ length out
+          → at + (length (gapBytes (before - past + shape .lead)) + shape .bytes) ≤ length out
       again-room room = omega (arith, many)
 
-      pub again-next : (n : ℕ) → n ≡ at + (gapSize (before - past + shape .lead) + shape .bytes)
+      pub again-next : (n : ℕ) → n ≡ at + (length (gapBytes (before - past + shape .lead)) + shape .bytes)
           → n ≡ at + length (partBytes s past (spanRows items span before))
       again-next n e = omega (arith, many)
 

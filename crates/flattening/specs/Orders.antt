@@ -14,7 +14,7 @@ use Rattle.sections.specs.Spans.{Items}
 use Rattle.playing.specs.Performing.{spanAt, lastsTogether, rowsTogether}
 use Rattle.flattening.specs.declared.Size.{Size}
 use Rattle.flattening.specs.declared.Measure.{Measure}
-use Rattle.flattening.specs.Parts.{told, gapSize, spanShape}
+use Rattle.flattening.specs.Parts.{told, gapBytes, spanShape}
 
 -- the bytes that are left of a plain form, after what is past, where so much has been played before
 unfoldable pub orderBytes : List ℕ → Items → List Span → ℕ → ℕ → List ℕ → List ℕ
@@ -32,7 +32,7 @@ shapeAt shapes letter = getD shapes letter noShape
 -- one section more: the gap to its first message and its bytes, or, where it is silent, a longer gap
 unfoldable pub addShape : Size → Shape → Size
 addShape size shape =
-    if shape .heard then record { bytes = size .bytes + (gapSize (size .gap + shape .lead) + shape .bytes); gap = shape .tail } else
+    if shape .heard then record { bytes = size .bytes + (length (gapBytes (size .gap + shape .lead)) + shape .bytes); gap = shape .tail } else
     record { bytes = size .bytes; gap = size .gap + shape .tail }
 
 -- with the rest before the end and the end mark

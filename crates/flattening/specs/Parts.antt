@@ -45,12 +45,9 @@ partLast body past rows = lastStep past (told body rows)
 unfoldable pub messageBytes : List ℕ → ℕ → Event → List ℕ
 messageBytes body gap event = bytesOf handyPhone (waits handyPhone gap) ++ timedBytes body (left longestDuration gap) event
 
--- a gap in bytes, with the duration that is left of it, and how many they are
+-- a gap in bytes, with the duration that is left of it
 unfoldable pub gapBytes : ℕ → List ℕ
 gapBytes gap = bytesOf handyPhone (waits handyPhone gap) ++ durationBytes (left longestDuration gap)
-
-unfoldable pub gapSize : ℕ → ℕ
-gapSize gap = length (bytesOf handyPhone (waits handyPhone gap)) + length (durationBytes (left longestDuration gap))
 
 unfoldable pub shapeOf : ℕ → List (At Content) → Shape
 shapeOf lasts [] = record { heard = false; lead = 0; bytes = 0; tail = lasts }
@@ -93,7 +90,7 @@ joined outline step size =
     if outline .heard then record {
       heard = true;
       lead = outline .lead;
-      bytes = outline .bytes + (gapSize (step - outline .last) + size);
+      bytes = outline .bytes + (length (gapBytes (step - outline .last)) + size);
       last = step;
     } else record { heard = true; lead = step; bytes = size; last = step }
 

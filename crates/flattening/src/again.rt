@@ -9,7 +9,7 @@ ghost use lib.Seq.{sets};
 ghost use Rattle.model.specs.Bytes.{part};
 ghost use Rattle.model.specs.Item.{bodyOf, isFine, itemsOf};
 ghost use Rattle.sections.specs.Spans.{spanRows, Playable, SpanRises};
-ghost use Rattle.flattening.specs.Parts.{partBytes, partLast, gapBytes, gapSize, spanShape, spanBytes, WrittenWhereKnown};
+ghost use Rattle.flattening.specs.Parts.{partBytes, partLast, gapBytes, spanShape, spanBytes, WrittenWhereKnown};
 use super::gaps::write_gap;
 use super::section::write_messages;
 use model::Shape;
@@ -48,8 +48,8 @@ fn write_again(
     requires { ⌜ shape .lead ≤ span .lasts ⌝ }
     requires { ⌜ shape .tail ≤ span .lasts ⌝ }
     requires { ⌜ place + shape .bytes ≤ at ⌝ }
-    requires { ⌜ at + (gapSize (before - past + shape .lead) + shape .bytes) ≤ length (now out) ⌝ }
-    ensures { λ r. ⌜ r .at ≡ at + (gapSize (before - past + shape .lead) + shape .bytes) ⌝ }
+    requires { ⌜ at + (length (gapBytes (before - past + shape .lead)) + shape .bytes) ≤ length (now out) ⌝ }
+    ensures { λ r. ⌜ r .at ≡ at + (length (gapBytes (before - past + shape .lead)) + shape .bytes) ⌝ }
     ensures { λ r. ⌜ r .past ≡ before + span .lasts - shape .tail ⌝ }
     ensures { λ _. ⌜ now (out .exit) ≡ sets (now (out .entry)) at (gapBytes (before - past + shape .lead) ++ part (now (out .entry)) place (shape .bytes)) ⌝ }
 {

@@ -7,7 +7,7 @@ ghost use lib.ListN.{length};
 ghost use lib.Seq.{sets};
 ghost use Rattle.model.specs.Plain.{bytesOf, times, left, waits, rest};
 ghost use Rattle.model.specs.Content.{handyPhone};
-ghost use Rattle.flattening.specs.Parts.{gapBytes, gapSize};
+ghost use Rattle.flattening.specs.Parts.{gapBytes};
 use writing::duration_size;
 use writing::write_duration;
 
@@ -39,7 +39,7 @@ fn waits_size(gap: u64) -> usize
 // How many bytes a gap takes, with the duration that is left of it.
 pub fn gap_size(gap: u64) -> usize
     requires { ⌜ gap ≤ 4611686018427387904 ⌝ }
-    ensures { λ r. ⌜ r ≡ gapSize gap ⌝ }
+    ensures { λ r. ⌜ r ≡ length (gapBytes gap) ⌝ }
     ensures { λ r. ⌜ r ≤ gap + 2 ⌝ }
 {
     waits_size(gap) + duration_size(left_of(gap))
@@ -87,8 +87,8 @@ pub fn write_waits(out: &mut [u8], at: usize, gap: u64) -> usize
 
 // A gap, with the duration that is left of it.
 pub fn write_gap(out: &mut [u8], at: usize, gap: u64) -> usize
-    requires { ⌜ at + gapSize gap ≤ length (now out) ⌝ }
-    ensures { λ r. ⌜ r ≡ at + gapSize gap ⌝ }
+    requires { ⌜ at + length (gapBytes gap) ≤ length (now out) ⌝ }
+    ensures { λ r. ⌜ r ≡ at + length (gapBytes gap) ⌝ }
     ensures { λ _. ⌜ now (out .exit) ≡ sets (now (out .entry)) at (gapBytes gap) ⌝ }
 {
     let middle = write_waits(out, at, gap);
