@@ -18,13 +18,13 @@ use Rattle.model.specs.Word.{wordOf}
 use Rattle.model.specs.declared.Voice.{Voice}
 use Rattle.model.specs.declared.Event.{Event}
 use Rattle.model.specs.declared.Span.{Span}
-use Rattle.sections.specs.declared.First.{First}
+use Rattle.sections.specs.declared.Standing.{Standing}
 use Rattle.sections.specs.Spans.{spanRows, stepsOf, wordsOf, Playable}
-use Rattle.sections.specs.Again.{noFirst, firstAfter, StoredWhereKnown}
+use Rattle.sections.specs.Again.{nowhere, standingAt, StoredWhereKnown}
 use Rattle.model.proofs.Tests.{by-test}
 use Rattle.model.proofs.Stores.{sets-append}
 use Rattle.sections.proofs.Stretches.{span-counts}
-use Rattle.sections.proofs.PlayedAgain.{first-known, first-new, stored-kept, stored-new}
+use Rattle.sections.proofs.PlayedAgain.{stored-kept, stored-new}
 use Rattle.playing.specs.Performing.{spanAt, AllPlayable, AllRise, messagesTogether, lastsTogether, rowsTogether}
 
 -- a playable span has as many rows as it says
@@ -50,13 +50,13 @@ column-stored column l m at many first second e long =
     ∙ ap (sets l at) (sym (map-append column first second))
 
 module _ (voice : Voice) (s : List ℕ) (spans : List Span) (letters : List ℕ) where
-  pub record Writing (l m out outs : List ℕ) (firsts : List First) (at before i : ℕ) : Type 0 where
+  pub record Writing (l m out outs : List ℕ) (standings : List Standing) (at before i : ℕ) : Type 0 where
     pub bytes : (k : ℕ) → letters ! k < 256
     pub reads : isFine (bodyOf voice s) ≡ true
     pub playable : AllPlayable (itemsOf voice s) (length s) spans letters
     pub rises : AllRise (itemsOf voice s) spans letters
-    pub slots : length firsts ≡ 256
-    pub known : (slot : ℕ) → StoredWhereKnown (itemsOf voice s) (spanAt spans slot) (getD firsts slot noFirst) out outs at before
+    pub slots : length standings ≡ 256
+    pub known : (slot : ℕ) → StoredWhereKnown (itemsOf voice s) (spanAt spans slot) (getD standings slot nowhere) out outs at before
     pub listed : length letters ≤ 65536
     pub within : i ≤ length letters
     pub fits : at + messagesTogether spans (drop i letters) < 18446744073709551616
@@ -70,18 +70,18 @@ module _ (voice : Voice) (s : List ℕ) (spans : List Span) (letters : List ℕ)
     pub words : sets outs at (wordsOf (rowsTogether (itemsOf voice s) spans before (drop i letters)))
         ≡ sets m 0 (wordsOf (rowsTogether (itemsOf voice s) spans 0 letters))
 
-  pub write-starts : (l m : List ℕ) (first : First) → first ≡ noFirst → ((k : ℕ) → letters ! k < 256) → isFine (bodyOf voice s) ≡ true
+  pub write-starts : (l m : List ℕ) (standing : Standing) → standing ≡ nowhere → ((k : ℕ) → letters ! k < 256) → isFine (bodyOf voice s) ≡ true
       → AllPlayable (itemsOf voice s) (length s) spans letters → AllRise (itemsOf voice s) spans letters
       → length letters ≤ 65536 → lastsTogether spans letters ≤ 4611686018427387904 → messagesTogether spans letters ≤ length l
-      → messagesTogether spans letters ≤ length m → length l < 18446744073709551616 → Writing l m l m (replicate 256 first) 0 0 0
-  write-starts l m first none bytes reads playable rises listed early room rooms fits =
+      → messagesTogether spans letters ≤ length m → length l < 18446744073709551616 → Writing l m l m (replicate 256 standing) 0 0 0
+  write-starts l m standing none bytes reads playable rises listed early room rooms fits =
       record {
         bytes = bytes;
         reads = reads;
         playable = playable;
         rises = rises;
-        slots = length-replicate 256 first;
-        known = λ slot flag. absurd (false≢true (sym (ap (λ (f : First). f .known) (ap (λ (f : First). getD (replicate 256 f) slot noFirst) none ∙ replicate-default 256 slot noFirst)) ∙ flag));
+        slots = length-replicate 256 standing;
+        known = λ slot flag. absurd (false≢true (sym (ap (λ (f : Standing). f .known) (ap (λ (f : Standing). getD (replicate 256 f) slot nowhere) none ∙ replicate-default 256 slot nowhere)) ∙ flag));
         listed = listed;
         within = omega arith;
         fits = omega arith;
@@ -94,7 +94,7 @@ module _ (voice : Voice) (s : List ℕ) (spans : List Span) (letters : List ℕ)
         words = refl;
       }
 
-  module _ (l m out outs : List ℕ) (firsts : List First) (at before i : ℕ) (w : Writing l m out outs firsts at before i) where
+  module _ (l m out outs : List ℕ) (standings : List Standing) (at before i : ℕ) (w : Writing l m out outs standings at before i) where
     -- nothing is left to be stored
     none-left : length letters ≤ i → drop i letters ≡ []
     none-left past = let end : i ≡ length letters = omega (arith, w .within) in ap (λ (n : ℕ). drop n letters) end ∙ drop-length letters
@@ -116,8 +116,8 @@ module _ (voice : Voice) (s : List ℕ) (spans : List Span) (letters : List ℕ)
     pub write-offset-fits : Fits w64 (letters ! i * 40)
     write-offset-fits = record { fits = omega (arith, w .bytes i) }
 
-    pub write-first-fits : Fits w64 (letters ! i * 24)
-    write-first-fits = record { fits = omega (arith, w .bytes i) }
+    pub write-standing-fits : Fits w64 (letters ! i * 24)
+    write-standing-fits = record { fits = omega (arith, w .bytes i) }
 
     module _ (here : i < length letters) where
       -- the span of the letter at hand
@@ -141,7 +141,7 @@ module _ (voice : Voice) (s : List ℕ) (spans : List Span) (letters : List ℕ)
       pub write-early : before + spanAt spans (letters ! i) .lasts ≤ 4611686018427387904
       write-early = omega (arith, w .early, lasts-next)
 
-      pub write-known : StoredWhereKnown (itemsOf voice s) (spanAt spans (letters ! i)) (getD firsts (letters ! i) noFirst) out outs at before
+      pub write-known : StoredWhereKnown (itemsOf voice s) (spanAt spans (letters ! i)) (getD standings (letters ! i) nowhere) out outs at before
       write-known = w .known (letters ! i)
 
       pub write-room-steps : at + spanAt spans (letters ! i) .messages ≤ length out
@@ -178,31 +178,23 @@ module _ (voice : Voice) (s : List ℕ) (spans : List Span) (letters : List ℕ)
       words-next = sets outs at (wordsOf here-rows)
 
       -- what is known of where a span's rows stand, one letter on
-      still-known : (slot : ℕ) → StoredWhereKnown (itemsOf voice s) (spanAt spans slot) (getD firsts slot noFirst) steps-next words-next at-next before-next
+      still-known : (slot : ℕ) → StoredWhereKnown (itemsOf voice s) (spanAt spans slot) (getD standings slot nowhere) steps-next words-next at-next before-next
       still-known slot =
-          stored-kept (itemsOf voice s) (spanAt spans slot) out outs at before (getD firsts slot noFirst) (stepsOf here-rows) (wordsOf here-rows)
+          stored-kept (itemsOf voice s) (spanAt spans slot) out outs at before (getD standings slot nowhere) (stepsOf here-rows) (wordsOf here-rows)
           at-next before-next (omega arith) (omega arith) (w .known slot)
 
-      now-known : StoredWhereKnown (itemsOf voice s) span (record { known = true; row = at; before = before }) steps-next words-next at-next before-next
+      now-known : StoredWhereKnown (itemsOf voice s) span (standingAt at before) steps-next words-next at-next before-next
       now-known flag =
           stored-new (itemsOf voice s) span out outs at before (rows-many voice s before span (w .reads) write-playable) write-room-steps write-room-words
           (w .rises i here before)
 
-      first-next : StoredWhereKnown (itemsOf voice s) span (firstAfter (getD firsts (letters ! i) noFirst) at before) steps-next words-next at-next before-next
-      first-next =
-          by-test (getD firsts (letters ! i) noFirst .known)
-          (λ t. subst (λ (f : First). StoredWhereKnown (itemsOf voice s) span f steps-next words-next at-next before-next)
-          (first-known (getD firsts (letters ! i) noFirst) at before t) (still-known (letters ! i)))
-          (λ t. subst (λ (f : First). StoredWhereKnown (itemsOf voice s) span f steps-next words-next at-next before-next)
-          (first-new (getD firsts (letters ! i) noFirst) at before t) now-known)
-
-      known-next : (slot : ℕ) (next-first : First) → next-first ≡ firstAfter (getD firsts (letters ! i) noFirst) at before
-          → StoredWhereKnown (itemsOf voice s) (spanAt spans slot) (getD (set firsts (letters ! i) next-first) slot noFirst) steps-next words-next at-next before-next
-      known-next slot next-first r =
+      known-next : (slot : ℕ) (standing : Standing) → standing ≡ standingAt at before
+          → StoredWhereKnown (itemsOf voice s) (spanAt spans slot) (getD (set standings (letters ! i) standing) slot nowhere) steps-next words-next at-next before-next
+      known-next slot standing r =
           by-test (slot ≡? letters ! i)
           (λ t. let e = eqb-true slot (letters ! i) t in
-          rw (e, getD-set-same firsts (letters ! i) next-first noFirst (omega (arith, w .slots, w .bytes i)), r) first-next)
-          (λ t. let e = eqb-false slot (letters ! i) t in rw (getD-set-other firsts (letters ! i) slot next-first noFirst e) (still-known slot))
+          rw (e, getD-set-same standings (letters ! i) standing nowhere (omega (arith, w .slots, w .bytes i)), r) now-known)
+          (λ t. let e = eqb-false slot (letters ! i) t in rw (getD-set-other standings (letters ! i) slot standing nowhere e) (still-known slot))
 
       rows-next : rowsTogether (itemsOf voice s) spans before (drop i letters) ≡ here-rows ++ later-rows
       unfolding rowsTogether
@@ -210,10 +202,10 @@ module _ (voice : Voice) (s : List ℕ) (spans : List Span) (letters : List ℕ)
 
       pub write-turns : (m₁ m₂ : List ℕ) → m₁ ≡ sets out at (stepsOf (spanRows (itemsOf voice s) (spanAt spans (letters ! i)) before))
           → m₂ ≡ sets outs at (wordsOf (spanRows (itemsOf voice s) (spanAt spans (letters ! i)) before))
-          → (next-first : First) → next-first ≡ firstAfter (getD firsts (letters ! i) noFirst) at before
-          → Writing l m m₁ m₂ (set firsts (letters ! i) next-first) (at + spanAt spans (letters ! i) .messages) (before + spanAt spans (letters ! i) .lasts) (i + 1)
+          → (standing : Standing) → standing ≡ standingAt at before
+          → Writing l m m₁ m₂ (set standings (letters ! i) standing) (at + spanAt spans (letters ! i) .messages) (before + spanAt spans (letters ! i) .lasts) (i + 1)
       unfolding stepsOf wordsOf
-      write-turns m₁ m₂ p q next-first r =
+      write-turns m₁ m₂ p q standing r =
           let many = rows-many voice s before span (w .reads) write-playable in
           let long₁ : length m₁ ≡ length out = ap length p ∙ length-sets out at (stepsOf here-rows) in
           let long₂ : length m₂ ≡ length outs = ap length q ∙ length-sets outs at (wordsOf here-rows) in
@@ -222,8 +214,8 @@ module _ (voice : Voice) (s : List ℕ) (spans : List Span) (letters : List ℕ)
             reads = w .reads;
             playable = w .playable;
             rises = w .rises;
-            slots = length-set firsts (letters ! i) next-first ∙ w .slots;
-            known = λ slot. rw (p, q) (known-next slot next-first r);
+            slots = length-set standings (letters ! i) standing ∙ w .slots;
+            known = λ slot. rw (p, q) (known-next slot standing r);
             listed = w .listed;
             within = omega arith;
             fits = omega (arith, w .fits, messages-next);
@@ -248,7 +240,7 @@ pub ruleset writing = (
   write-slot,
   write-slot-fits,
   write-offset-fits,
-  write-first-fits,
+  write-standing-fits,
   write-playable,
   write-early,
   write-known,

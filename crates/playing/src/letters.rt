@@ -95,7 +95,7 @@ pub fn plan_letters(voice: Voice, body: &[u8], seek: &[u8], letters: &[u8]) -> P
     add_spans(spans, letters)
 }
 
-// The rows of all letters of a list, one section after the other. A section that is played again is copied from where it was written first.
+// The rows of all letters of a list, one section after the other. A section that is played again is copied from where it was written last.
 pub fn write_letters(
     voice: Voice,
     body: &[u8],
@@ -115,16 +115,16 @@ pub fn write_letters(
     ensures { λ _. ⌜ now (steps .exit) ≡ sets (now (steps .entry)) 0 (stepsOf (rowsTogether (itemsOf voice (now (body .entry))) spans 0 (now (letters .entry)))) ⌝ }
     ensures { λ _. ⌜ now (words .exit) ≡ sets (now (words .entry)) 0 (wordsOf (rowsTogether (itemsOf voice (now (body .entry))) spans 0 (now (letters .entry)))) ⌝ }
 {
-    let mut firsts = [sections::no_first(); 256];
+    let mut standings = [sections::nowhere(); 256];
     let mut at: usize = 0;
     let mut before: u64 = 0;
     let mut i: usize = 0;
     while i < letters.len() {
         let slot = letters[i] as usize;
         let span = spans[slot];
-        let first = firsts[slot];
-        sections::write_section(voice, body, span, first, before, steps, words, at);
-        firsts[slot] = sections::first_after(first, at, before);
+        let standing = standings[slot];
+        sections::write_section(voice, body, span, standing, before, steps, words, at);
+        standings[slot] = sections::standing_at(at, before);
         at += span.messages;
         before += span.lasts;
         i += 1;

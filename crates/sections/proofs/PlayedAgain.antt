@@ -1,20 +1,19 @@
--- A SECTION PLAYED AGAIN: its rows are those that were written first, each as much later as has been played since.
+-- A SECTION PLAYED AGAIN: its rows are those that stand in the tables, each as much later as has been played since.
 use Prim.Native.Nat.{ℕ, zero, suc, _+_, _-_, _<_, _≤_}
-use mathlib.Core.Bool.{true, false}
+use mathlib.Core.Bool.{true}
 use mathlib.Core.List.{List, [], _∷_, map}
-use mathlib.Core.Path.{_≡_, refl, sym, _∙_, ap, ap₂}
+use mathlib.Core.Path.{_≡_, refl, _∙_, ap, ap₂}
 use lib.ListN.{length, take, length-map}
 use lib.Seq.{sets}
 use native.Mathlib.Omega.{arith}
-use Rattle.model.specs.Words.{if_then_else_}
 use Rattle.model.specs.Bytes.{_!_, part}
 use Rattle.model.specs.Play.{At}
 use Rattle.model.specs.Word.{wordOf}
 use Rattle.model.specs.declared.Event.{Event}
 use Rattle.model.specs.declared.Span.{Span}
-use Rattle.sections.specs.declared.First.{First}
+use Rattle.sections.specs.declared.Standing.{Standing}
 use Rattle.sections.specs.Spans.{Items, messagesAfter, itemsFrom, counted, spanRows, stepsOf, wordsOf, Rising}
-use Rattle.sections.specs.Again.{later, AllFit, firstAfter, Stored, StoredWhereKnown}
+use Rattle.sections.specs.Again.{later, AllFit, standingAt, Stored, StoredWhereKnown}
 use Rattle.sections.proofs.Copying.{part-before, part-stored}
 
 counted-later : (first before start : ℕ) (rows : List (At Event)) → first ≤ before
@@ -39,45 +38,32 @@ module _ (items : Items) (span : Span) (first before : ℕ) where
   unfolding spanRows
   rows-words = counted-words first before (span .start) (take (span .messages) (messagesAfter (span .past) (itemsFrom (span .first) items)))
 
-module _ (items : Items) (span : Span) (first : First) (steps words : List ℕ) (at before : ℕ) (known : StoredWhereKnown items span first steps words at before)
-    (flag : first .known ≡ true) where
-  stored : Stored items span first steps words at before
+module _ (items : Items) (span : Span) (standing : Standing) (steps words : List ℕ) (at before : ℕ) (known : StoredWhereKnown items span standing steps words at before)
+    (flag : standing .known ≡ true) where
+  stored : Stored items span standing steps words at before
   stored = known flag
 
-  pub again-behind : first .row + span .messages ≤ at
+  pub again-behind : standing .row + span .messages ≤ at
   again-behind = stored .inside
 
-  pub again-past : first .before ≤ before
+  pub again-past : standing .before ≤ before
   again-past = stored .past
 
-  pub again-fits : before + span .lasts ≤ 4611686018427387904 → AllFit (before - first .before) (part steps (first .row) (span .messages))
+  pub again-fits : before + span .lasts ≤ 4611686018427387904 → AllFit (before - standing .before) (part steps (standing .row) (span .messages))
   again-fits early i h =
       let is = stored .steps-stand in
       let low = stored .low i (rw is at h) in
       rw is (omega (arith, low, stored .past))
 
-  pub again-steps : (m : List ℕ) → m ≡ sets steps at (later (before - first .before) (part steps (first .row) (span .messages)))
+  pub again-steps : (m : List ℕ) → m ≡ sets steps at (later (before - standing .before) (part steps (standing .row) (span .messages)))
       → m ≡ sets steps at (stepsOf (spanRows items span before))
   again-steps m e =
-      e ∙ ap (sets steps at) (ap (later (before - first .before)) (stored .steps-stand) ∙ rows-later items span (first .before) before (stored .past))
+      e ∙ ap (sets steps at) (ap (later (before - standing .before)) (stored .steps-stand) ∙ rows-later items span (standing .before) before (stored .past))
 
-  pub again-words : (m : List ℕ) → m ≡ sets words at (part words (first .row) (span .messages)) → m ≡ sets words at (wordsOf (spanRows items span before))
-  again-words m e = e ∙ ap (sets words at) (stored .words-stand ∙ rows-words items span (first .before) before)
+  pub again-words : (m : List ℕ) → m ≡ sets words at (part words (standing .row) (span .messages)) → m ≡ sets words at (wordsOf (spanRows items span before))
+  again-words m e = e ∙ ap (sets words at) (stored .words-stand ∙ rows-words items span (standing .before) before)
 
 pub ruleset again = (again-behind, again-past, again-fits, again-steps, again-words)
-
--- where rows are known to stand
-
-module _ (first : First) (row before : ℕ) where
-  pub first-known : first .known ≡ true → first ≡ firstAfter first row before
-  unfolding firstAfter if_then_else_
-  first-known h = sym (rw h refl)
-
-  pub first-new : first .known ≡ false → record { known = true; row = row; before = before } ≡ firstAfter first row before
-  unfolding firstAfter if_then_else_
-  first-new h = sym (rw h refl)
-
-pub ruleset firsts = (first-known, first-new)
 
 -- what is known stays known when more is stored behind it, and what was stored is known
 
@@ -92,22 +78,22 @@ steps-low low high (row ∷ rows) rises zero h = rising-low (row .step) high row
 steps-low low high (row ∷ rows) rises (suc i) h = steps-low (row .step) high rows (rises .1) i (omega arith)
 
 module _ (items : Items) (span : Span) (steps words : List ℕ) (at before : ℕ) where
-  pub stored-kept : (first : First) (more words-more : List ℕ) (past later-on : ℕ) → at ≤ past → before ≤ later-on
-      → StoredWhereKnown items span first steps words at before
-      → StoredWhereKnown items span first (sets steps at more) (sets words at words-more) past later-on
-  stored-kept first more words-more past later-on h k known flag =
+  pub stored-kept : (standing : Standing) (more words-more : List ℕ) (past later-on : ℕ) → at ≤ past → before ≤ later-on
+      → StoredWhereKnown items span standing steps words at before
+      → StoredWhereKnown items span standing (sets steps at more) (sets words at words-more) past later-on
+  stored-kept standing more words-more past later-on h k known flag =
       let s = known flag in
       record {
         inside = omega (arith, s .inside);
         past = omega (arith, s .past);
-        steps-stand = part-before steps (first .row) (span .messages) at more (s .inside) ∙ s .steps-stand;
-        words-stand = part-before words (first .row) (span .messages) at words-more (s .inside) ∙ s .words-stand;
+        steps-stand = part-before steps (standing .row) (span .messages) at more (s .inside) ∙ s .steps-stand;
+        words-stand = part-before words (standing .row) (span .messages) at words-more (s .inside) ∙ s .words-stand;
         low = s .low;
       }
 
   pub stored-new : length (spanRows items span before) ≡ span .messages → at + span .messages ≤ length steps → at + span .messages ≤ length words
       → Rising before (before + span .lasts) (spanRows items span before)
-      → Stored items span (record { known = true; row = at; before = before }) (sets steps at (stepsOf (spanRows items span before)))
+      → Stored items span (standingAt at before) (sets steps at (stepsOf (spanRows items span before)))
       (sets words at (wordsOf (spanRows items span before))) (at + span .messages) (before + span .lasts)
   unfolding stepsOf wordsOf
   stored-new many room words-room rises =

@@ -7,8 +7,8 @@ ghost use lib.Seq.{sets};
 ghost use Rattle.model.specs.Bytes.{part};
 ghost use Rattle.model.specs.Item.{bodyOf, isFine, itemsOf};
 ghost use Rattle.sections.specs.Spans.{spanRows, stepsOf, wordsOf, Playable};
-ghost use Rattle.sections.specs.Again.{later, AllFit, StoredWhereKnown, firstAfter, noFirst};
-use super::First;
+ghost use Rattle.sections.specs.Again.{later, AllFit, StoredWhereKnown, standingAt, nowhere};
+use super::Standing;
 use super::rows::write_span;
 use model::Span;
 use model::Voice;
@@ -41,12 +41,12 @@ fn copy_words(words: &mut [u32], from: usize, count: usize, at: usize)
     }
 }
 
-// The rows of a span from an index on, where so much has been played before: copied where it is known where they were written first.
+// The rows of a span from an index on, where so much has been played before: copied where it is known where they stand.
 pub fn write_section(
     voice: Voice,
     body: &[u8],
     span: Span,
-    first: First,
+    standing: Standing,
     before: u64,
     steps: &mut [u64],
     words: &mut [u32],
@@ -58,38 +58,35 @@ pub fn write_section(
     requires { ⌜ before + span .lasts ≤ 4611686018427387904 ⌝ }
     requires { ⌜ at + span .messages ≤ length (now steps) ⌝ }
     requires { ⌜ at + span .messages ≤ length (now words) ⌝ }
-    requires { ⌜ StoredWhereKnown (itemsOf voice (now body)) span first (now steps) (now words) at before ⌝ }
+    requires { ⌜ StoredWhereKnown (itemsOf voice (now body)) span standing (now steps) (now words) at before ⌝ }
     ensures { λ _. ⌜ now (steps .exit) ≡ sets (now (steps .entry)) at (stepsOf (spanRows (itemsOf voice (now (body .entry))) span before)) ⌝ }
     ensures { λ _. ⌜ now (words .exit) ≡ sets (now (words .entry)) at (wordsOf (spanRows (itemsOf voice (now (body .entry))) span before)) ⌝ }
 {
-    if first.known {
-        let row = first.row;
+    if standing.known {
+        let row = standing.row;
         let count = span.messages;
-        copy_steps(steps, row, count, before - first.before, at);
+        copy_steps(steps, row, count, before - standing.before, at);
         copy_words(words, row, count, at);
         return;
     }
     write_span(voice, body, span, before, steps, words, at);
 }
 
-// Where the rows of a span are known to stand once they are written at an index.
-pub fn first_after(first: First, row: usize, before: u64) -> First
-    ensures { λ r. ⌜ r ≡ firstAfter first row before ⌝ }
+// Where the rows of a span stand once they are written at an index.
+pub fn standing_at(row: usize, before: u64) -> Standing
+    ensures { λ r. ⌜ r ≡ standingAt row before ⌝ }
 {
-    if first.known {
-        return first;
-    }
-    First {
+    Standing {
         known: true,
         row,
         before,
     }
 }
 
-pub fn no_first() -> First
-    ensures { λ r. ⌜ r ≡ noFirst ⌝ }
+pub fn nowhere() -> Standing
+    ensures { λ r. ⌜ r ≡ nowhere ⌝ }
 {
-    First {
+    Standing {
         known: false,
         row: 0,
         before: 0,

@@ -8,8 +8,8 @@ mod take;
 mod walk;
 mod word;
 
-pub use again::first_after;
-pub use again::no_first;
+pub use again::nowhere;
+pub use again::standing_at;
 pub use again::write_section;
 pub use rest::write_from;
 pub use rows::write_span;
@@ -18,8 +18,8 @@ pub use span::span_from;
 pub use word::is_message;
 pub use word::word_of;
 
-// Where the rows of a section were written first, if that is known, and what had been played before.
-pub struct First {
+// Where the rows of a section stand, if that is known, and what had been played before them.
+pub struct Standing {
     pub known: bool,
     pub row: usize,
     pub before: u64,

@@ -8,15 +8,15 @@ use Rattle.playing.proofs.letters.write_letters.Statement.{statement}
 use Rattle.playing.proofs.letters.write_letters.Tie as tie
 
 abbrev Inv-loop : tie.InvT-loop
-Inv-loop voice body letters steps₀ words₀ spans firsts₀ at₀ before₀ i₀ steps words firsts at before i =
-    Writing voice body spans letters steps₀ words₀ steps words firsts at before i
+Inv-loop voice body letters steps₀ words₀ spans standings₀ at₀ before₀ i₀ steps words standings at before i =
+    Writing voice body spans letters steps₀ words₀ steps words standings at before i
 
 abbrev μ-loop : tie.MeasureT-loop
-μ-loop voice body letters steps₀ words₀ spans firsts₀ at₀ before₀ i₀ steps words firsts at before i =
+μ-loop voice body letters steps₀ words₀ spans standings₀ at₀ before₀ i₀ steps words standings at before i =
     length letters - i
 
-no-first-requires : tie.Need-no-first-requires Inv-loop μ-loop
-no-first-requires c κs = search (needs, writing)
+nowhere-requires : tie.Need-nowhere-requires Inv-loop μ-loop
+nowhere-requires c κs = search (needs, writing)
 
 loop-holds : tie.Need-loop-holds Inv-loop μ-loop
 loop-holds c =
@@ -35,23 +35,23 @@ mul-span c = search (needs, writing)
 array-copy-out-span : tie.Need-array-copy-out-span Inv-loop μ-loop
 array-copy-out-span c = search (needs, writing)
 
-mul-first : tie.Need-mul-first Inv-loop μ-loop
-mul-first c = search (needs, writing)
+mul-standing : tie.Need-mul-standing Inv-loop μ-loop
+mul-standing c = search (needs, writing)
 
-array-copy-out-first : tie.Need-array-copy-out-first Inv-loop μ-loop
-array-copy-out-first c = search (needs, writing)
+array-copy-out-standing : tie.Need-array-copy-out-standing Inv-loop μ-loop
+array-copy-out-standing c = search (needs, writing)
 
 write-section-requires : tie.Need-write-section-requires Inv-loop μ-loop
 write-section-requires c κs = (search needs, (search needs, (search writing, (search writing, (search writing, (search writing, search writing))))))
 
-first-after-requires : tie.Need-first-after-requires Inv-loop μ-loop
-first-after-requires c κs = search (needs, writing)
+standing-at-requires : tie.Need-standing-at-requires Inv-loop μ-loop
+standing-at-requires c κs = search (needs, writing)
 
-mul-firsts : tie.Need-mul-firsts Inv-loop μ-loop
-mul-firsts c = search (needs, writing)
+mul-standings : tie.Need-mul-standings Inv-loop μ-loop
+mul-standings c = search (needs, writing)
 
-array-set-from-firsts : tie.Need-array-set-from-firsts Inv-loop μ-loop
-array-set-from-firsts c = search (needs, writing)
+array-set-from-standings : tie.Need-array-set-from-standings Inv-loop μ-loop
+array-set-from-standings c = search (needs, writing)
 
 add-at : tie.Need-add-at Inv-loop μ-loop
 add-at c = search (needs, writing)
@@ -83,18 +83,18 @@ write-letters-spec =
     (tie.spec
     Inv-loop
     μ-loop
-    no-first-requires
+    nowhere-requires
     loop-holds
     shared-slice-read-slot
     cast-slot
     mul-span
     array-copy-out-span
-    mul-first
-    array-copy-out-first
+    mul-standing
+    array-copy-out-standing
     write-section-requires
-    first-after-requires
-    mul-firsts
-    array-set-from-firsts
+    standing-at-requires
+    mul-standings
+    array-set-from-standings
     add-at
     add-before
     add-i
