@@ -84,19 +84,19 @@ pub record Short (voice : Voice) (s : List ℕ) (at : ℕ) : Type 0 where
 
 pub short-stands : (voice : Voice) (s : List ℕ) (at : ℕ) → isShort voice s at ≡ true → Short voice s at
 unfolding isShort soundAt withEvent notZero gated if_then_else_
-short-stands voice s at t =
-    let within : at + 3 ≤ length s = leb-true (at + 3) (length s) (and-left _ _ t) in
-    let t1 = and-right _ _ t in
-    let one : s ! at < 128 = ltb-true (s ! at) 128 (and-left _ _ t1) in
-    let t2 = and-right _ _ t1 in
-    let control : s ! (at + 1) ≡ 0x00 → ⊥ = eqb-false (s ! (at + 1)) 0x00 (not-true _ (and-left _ _ t2)) in
-    let t3 = and-right _ _ t2 in
-    let system : s ! (at + 1) ≡ 0xFF → ⊥ = eqb-false (s ! (at + 1)) 0xFF (not-true _ (and-left _ _ t3)) in
-    let t4 = and-right _ _ t3 in
-    let some : s ! (at + 2) ≡ 0 → ⊥ = eqb-false (s ! (at + 2)) 0 (not-true _ (and-left _ _ t4)) in
-    let t5 = and-right _ _ t4 in
-    let gate : s ! (at + 2) < 128 = ltb-true (s ! (at + 2)) 128 (and-left _ _ t5) in
-    let sounds : isSound voice (s ! (at + 1)) ≡ true = and-right _ _ t5 in
+short-stands voice s at test =
+    let within : at + 3 ≤ length s = leb-true (at + 3) (length s) (and-left _ _ test) in
+    let past-room = and-right _ _ test in
+    let one : s ! at < 128 = ltb-true (s ! at) 128 (and-left _ _ past-room) in
+    let past-duration = and-right _ _ past-room in
+    let control : s ! (at + 1) ≡ 0x00 → ⊥ = eqb-false (s ! (at + 1)) 0x00 (not-true _ (and-left _ _ past-duration)) in
+    let past-control = and-right _ _ past-duration in
+    let system : s ! (at + 1) ≡ 0xFF → ⊥ = eqb-false (s ! (at + 1)) 0xFF (not-true _ (and-left _ _ past-control)) in
+    let past-system = and-right _ _ past-control in
+    let some : s ! (at + 2) ≡ 0 → ⊥ = eqb-false (s ! (at + 2)) 0 (not-true _ (and-left _ _ past-system)) in
+    let past-zero = and-right _ _ past-system in
+    let gate : s ! (at + 2) < 128 = ltb-true (s ! (at + 2)) 128 (and-left _ _ past-zero) in
+    let sounds : isSound voice (s ! (at + 1)) ≡ true = and-right _ _ past-zero in
     let starts = sounds-here voice s at (omega arith) one control system in
     let gates = gate-is voice s at (omega arith) one control system (omega arith) gate in
     record { is = starts ∙ simp (sounds, gates, ne-eqb); within = within; one = one }
