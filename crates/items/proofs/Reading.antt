@@ -1,7 +1,7 @@
 -- One walk of a sequence body: the invariant of `read_body`'s loop, and what each way out of it and each turn makes of it.
 use Prim.Native.Nat.{ℕ, _+_, _-_, _*_, _<_, _≤_}
 use mathlib.Core.List.{List, [], _∷_}
-use mathlib.Core.Bool.{Bool, true}
+use mathlib.Core.Bool.{Bool, true, false}
 use mathlib.Core.Path.{_≡_, refl, sym, _∙_, ap, ap₂, subst}
 use lib.ListN.{length}
 use native.Mathlib.Nat.{add-zero, zero-add}
@@ -48,18 +48,18 @@ onto-first count lasts item (fine items) = ap₂ body.Whole (omega arith) (omega
 onto-first count lasts item (refused number place) = refl
 
 -- an end mark is the last four bytes
-module _ {E : Type 0} (size : ℕ) (before : List (Placed (Item E))) (place : ℕ) where
-  pub timed-passes : (duration : ℕ) (event : E) → markIsLast size before (record { place = place; what = timed duration event }) ≡ passed
-  unfolding markIsLast isMark _and_ if_then_else_
-  timed-passes duration event = refl
+module _ {E : Type 0} (size : ℕ) (before : List (Placed (Item E))) (item : Placed (Item E)) where
+  pub unmarked-passes : isMark (item .what) ≡ false → markIsLast size before item ≡ passed
+  unfolding markIsLast _and_ if_then_else_
+  unmarked-passes e = rw e
 
-  pub mark-passes : size ≤ place + 4 → markIsLast size before (record { place = place; what = endMark }) ≡ passed
-  unfolding markIsLast isMark _and_ if_then_else_
-  mark-passes h = simp le-ltb
+  pub last-passes : size ≤ item .place + 4 → markIsLast size before item ≡ passed
+  unfolding markIsLast _and_ if_then_else_
+  last-passes h = by-test (isMark (item .what)) (λ e. simp (e, le-ltb)) (λ e. rw e)
 
-  pub mark-refuses : place + 4 < size → markIsLast size before (record { place = place; what = endMark }) ≡ refused 11 (place + 4)
-  unfolding markIsLast isMark _and_ if_then_else_
-  mark-refuses h = simp lt-ltb
+  pub mark-refuses : isMark (item .what) ≡ true → item .place + 4 < size → markIsLast size before item ≡ refused 11 (item .place + 4)
+  unfolding markIsLast _and_ if_then_else_
+  mark-refuses e h = simp (e, lt-ltb)
 
 pub record Reading (voice : Voice) (s : List ℕ) (at count lasts : ℕ) : Type 0 where
   pub before : List (Placed (Item Event))
@@ -118,10 +118,10 @@ module _ (voice : Voice) (s : List ℕ) (at count lasts : ℕ) (r : Reading voic
 
     pub body-reads : (duration next : ℕ) (event : Event) → i ≡ Timed duration event next → duration < 4294967296
         → Reading voice s next (count + 1) (lasts + duration)
-    unfolding itemMet durationOf
+    unfolding itemMet durationOf isMark
     body-reads duration next event e small =
         let a = ahead (Timed duration event next) e in
-        let passes = timed-passes (length s) (r .before) at duration event in
+        let passes = unmarked-passes (length s) (r .before) (record { place = at; what = timed duration event }) refl in
         let t = taken (timed duration event) next (stands (Timed duration event next) e) (omega arith) passes in
         record {
           before = record { place = at; what = timed duration event } ∷ r .before;
@@ -136,7 +136,7 @@ module _ (voice : Voice) (s : List ℕ) (at count lasts : ℕ) (r : Reading voic
     unfolding itemMet durationOf
     body-marked next e q =
         let a = ahead (EndMark next) e in
-        let t = taken endMark next (stands (EndMark next) e) (omega arith) (mark-passes (length s) (r .before) at (omega arith)) in
+        let t = taken endMark next (stands (EndMark next) e) (omega arith) (last-passes (length s) (r .before) (record { place = at; what = endMark }) (omega arith)) in
         let before : Items = record { place = at; what = endMark } ∷ r .before in
         ap (λ (n : ℕ). body.Whole (count + 1) n) (sym (add-zero lasts))
         ∙ sym (onto-nil (count + 1) (lasts + 0))
@@ -145,14 +145,14 @@ module _ (voice : Voice) (s : List ℕ) (at count lasts : ℕ) (r : Reading voic
 
     -- whatever stands after an end mark is refused with 11 at its first byte
     body-goes-on : (next : ℕ) → i ≡ EndMark next → (next ≡ length s → ⊥) → body.Refused 11 next ≡ bodyAnswer (bodyOf voice s)
-    unfolding itemMet onto
+    unfolding itemMet onto isMark
     body-goes-on next e q =
         let a = ahead (EndMark next) e in
         let four : next ≡ at + 4 = a .0 in
         ap (body.Refused 11) four
         ∙ ap (onto count lasts)
         (sym (left-refused _ _ _ _ at (r .before) (r .left) (r .walk) _ next 11 (at + 4) here (stands (EndMark next) e)
-        (mark-refuses (length s) (r .before) at (omega arith))))
+        (mark-refuses (length s) (r .before) (record { place = at; what = endMark }) refl (omega arith))))
         ∙ r .same
 
     pub body-marks : (next : ℕ) (answer : ReadBody) → i ≡ EndMark next → answer ≡ endedAt (length s) next count lasts → answer ≡ bodyAnswer (bodyOf voice s)
