@@ -2,6 +2,7 @@
 
 use crate::case::Operation;
 use crate::generate;
+use crate::generate::fault::{cells, fault_case, item_clauses};
 use crate::progress::progress;
 use crate::refusal::Clause;
 use std::collections::BTreeMap;
@@ -36,6 +37,20 @@ pub fn count(operations: &[Operation], cases: u64, seed: u64) -> BTreeMap<Option
     counts
 }
 
+/// Cases in which each cell of the table of faults is met that often, and how
+/// many of them were refused for it, by clause.
+pub fn count_faults(each: u64, seed: u64) -> BTreeMap<Option<Clause>, u64> {
+    let mut counts = BTreeMap::new();
+    for number in 0..each * cells().len() as u64 {
+        let (case, cell) = fault_case(seed, number);
+        let refused = case.answer().err().map(|refusal| refusal.clause);
+        if refused == Some(cell.clause) {
+            *counts.entry(refused).or_insert(0) += 1;
+        }
+    }
+    counts
+}
+
 /// The clauses that apply to the operations and refused nothing.
 pub fn missing(operations: &[Operation], counts: &BTreeMap<Option<Clause>, u64>) -> Vec<Clause> {
     let due = |clause: &Clause| {
@@ -56,4 +71,13 @@ pub fn table(operations: &[Operation], counts: &BTreeMap<Option<Clause>, u64>) -
         }
     }
     text
+}
+
+/// One line for each clause of faulty items.
+pub fn fault_table(counts: &BTreeMap<Option<Clause>, u64>) -> String {
+    let line = |clause: &Clause| {
+        let count = counts.get(&Some(*clause)).unwrap_or(&0);
+        format!("{count:8} {:2} {clause:?}\n", clause.number())
+    };
+    item_clauses().iter().map(line).collect()
 }

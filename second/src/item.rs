@@ -56,101 +56,98 @@ pub struct Sequence {
     pub time: u64,
 }
 
-#[derive(Clone, Copy, Debug, PartialEq, Eq)]
-pub enum LengthFault {
-    Cut,
-    SecondByte,
+/// The byte at `at`; where the body ends before it, the item is cut short.
+fn byte_at(body: &[u8], at: usize, cut: Clause) -> Result<u8, Refusal> {
+    body.get(at).copied().ok_or(Refusal::at(cut, body.len()))
 }
 
+/// How the faults of a duration or of a gate time are called.
+struct LengthFaults {
+    cut: Clause,
+    second_cut: Clause,
+    second_byte: Clause,
+}
+
+const DURATION: LengthFaults = LengthFaults {
+    cut: Clause::DurationCut,
+    second_cut: Clause::DurationCut,
+    second_byte: Clause::DurationSecondByte,
+};
+
+const GATE: LengthFaults = LengthFaults {
+    cut: Clause::GateCut,
+    second_cut: Clause::GateSecondCut,
+    second_byte: Clause::GateSecondByte,
+};
+
 /// A duration, or a gate time before its check for 0: value and end.
-pub fn length_at(body: &[u8], at: usize) -> Result<(u16, usize), LengthFault> {
-    let first = *body.get(at).ok_or(LengthFault::Cut)?;
+fn length_at(body: &[u8], at: usize, faults: &LengthFaults) -> Result<(u16, usize), Refusal> {
+    let first = byte_at(body, at, faults.cut)?;
     if first < 128 {
         return Ok((u16::from(first), at + 1));
     }
-    let second = *body.get(at + 1).ok_or(LengthFault::Cut)?;
+    let second = byte_at(body, at + 1, faults.second_cut)?;
     if second >= 128 {
-        return Err(LengthFault::SecondByte);
+        return Err(Refusal::at(faults.second_byte, at + 1));
     }
     let value = 128 * (u16::from(first) - 128) + u16::from(second) + 128;
     Ok((value, at + 2))
 }
 
-fn duration_at(body: &[u8], at: usize) -> Result<(u16, usize), Clause> {
-    length_at(body, at).map_err(|fault| match fault {
-        LengthFault::Cut => Clause::DurationCut,
-        LengthFault::SecondByte => Clause::DurationSecondByte,
-    })
-}
-
-fn gate_at(body: &[u8], at: usize) -> Result<(u16, usize), Clause> {
-    match length_at(body, at) {
-        Ok((0, _)) => Err(Clause::GateZero),
-        Ok(gate) => Ok(gate),
-        Err(LengthFault::Cut) => Err(Clause::GateCut),
-        Err(LengthFault::SecondByte) => Err(Clause::GateSecondByte),
+fn gate_at(body: &[u8], at: usize) -> Result<(u16, usize), Refusal> {
+    match length_at(body, at, &GATE)? {
+        (0, _) => Err(Refusal::at(Clause::GateZero, at)),
+        gate => Ok(gate),
     }
 }
 
-/// A whole exclusive at `at`, or why there is none.
-#[derive(Clone, Copy, Debug, PartialEq, Eq)]
-pub enum ExclusiveFault {
-    Other,
-    Cut,
-    SizeUnderThree,
-    WithoutEnd,
+/// What FF begins: an exclusive, or none for a NOP; and its end.
+fn full_at(body: &[u8], at: usize) -> Result<(Option<Message>, usize), Refusal> {
+    match byte_at(body, at + 1, Clause::FullEventCut)? {
+        0x00 => Ok((None, at + 2)),
+        0xF0 => exclusive_at(body, at).map(|message| (Some(message), message.end)),
+        _ => Err(Refusal::at(Clause::OtherFullEvent, at + 1)),
+    }
 }
 
-pub fn exclusive_at(body: &[u8], at: usize) -> Result<Message, ExclusiveFault> {
-    match (body.get(at), body.get(at + 1)) {
-        (Some(0xFF), Some(0xF0)) => {}
-        (Some(0xFF), None) => return Err(ExclusiveFault::Cut),
-        _ => return Err(ExclusiveFault::Other),
-    }
-    let size = *body.get(at + 2).ok_or(ExclusiveFault::Cut)?;
+/// The exclusive whose FF F0 stands at `at`.
+pub fn exclusive_at(body: &[u8], at: usize) -> Result<Message, Refusal> {
+    let size = byte_at(body, at + 2, Clause::ExclusiveSizeCut)?;
     if size < 3 {
-        return Err(ExclusiveFault::SizeUnderThree);
+        return Err(Refusal::at(Clause::ExclusiveSizeUnderThree, at + 2));
     }
-    let end = at + 3 + usize::from(size);
-    match body.get(end - 1) {
-        None => Err(ExclusiveFault::Cut),
-        Some(0xF7) => {
-            Ok(Message { kind: Kind::Exclusive, channel: 0, value: size, gate: 0, start: at, end })
+    let last = at + 2 + usize::from(size);
+    match byte_at(body, last, Clause::ExclusiveCut)? {
+        0xF7 => {
+            let kind = Kind::Exclusive;
+            Ok(Message { kind, channel: 0, value: size, gate: 0, start: at, end: last + 1 })
         }
-        Some(_) => Err(ExclusiveFault::WithoutEnd),
+        _ => Err(Refusal::at(Clause::ExclusiveWithoutEnd, last)),
     }
 }
 
 /// An event at `at`: its message (none for a NOP) and its end.
-fn event_at(body: &[u8], at: usize, voice: Voice) -> Result<(Option<Message>, usize), Clause> {
-    let first = *body.get(at).ok_or(Clause::EventCut)?;
-    if first == 0xFF && body.get(at + 1) == Some(&0x00) {
-        return Ok((None, at + 2));
-    }
-    let message = match first {
-        0xFF => exclusive_at(body, at).map_err(|fault| match fault {
-            ExclusiveFault::Other => Clause::OtherFullEvent,
-            ExclusiveFault::Cut => Clause::ExclusiveCut,
-            ExclusiveFault::SizeUnderThree => Clause::ExclusiveSizeUnderThree,
-            ExclusiveFault::WithoutEnd => Clause::ExclusiveWithoutEnd,
-        })?,
+fn event_at(body: &[u8], at: usize, voice: Voice) -> Result<(Option<Message>, usize), Refusal> {
+    let message = match byte_at(body, at, Clause::EventCut)? {
+        0xFF => return full_at(body, at),
         0x00 => control_at(body, at, voice)?,
-        _ => sound_at(body, at, first, voice)?,
+        first => sound_at(body, at, first, voice)?,
     };
     Ok((Some(message), message.end))
 }
 
 /// A note or a wave message whose first byte is `first`.
-fn sound_at(body: &[u8], at: usize, first: u8, voice: Voice) -> Result<Message, Clause> {
+fn sound_at(body: &[u8], at: usize, first: u8, voice: Voice) -> Result<Message, Refusal> {
     let value = first & 0x3F;
+    let forbidden = |clause| Err(Refusal::at(clause, at));
     let kind = match voice {
         Voice::Score => match value & 0x0F {
             0x1..=0xC => Kind::Note,
-            _ => return Err(Clause::NoteForbidden),
+            _ => return forbidden(Clause::NoteForbidden),
         },
         Voice::Pcm => match value {
-            0 => return Err(Clause::WaveNumberZero),
-            63 => return Err(Clause::WaveNumberSixtyThree),
+            0 => return forbidden(Clause::WaveNumberZero),
+            63 => return forbidden(Clause::WaveNumberSixtyThree),
             _ => Kind::Wave,
         },
     };
@@ -159,49 +156,57 @@ fn sound_at(body: &[u8], at: usize, first: u8, voice: Voice) -> Result<Message, 
 }
 
 /// A control: 00, then channel, form and four bits.
-fn control_at(body: &[u8], at: usize, voice: Voice) -> Result<Message, Clause> {
-    let second = *body.get(at + 1).ok_or(Clause::ControlCut)?;
+fn control_at(body: &[u8], at: usize, voice: Voice) -> Result<Message, Refusal> {
+    let second = byte_at(body, at + 1, Clause::ControlCut)?;
     let bits = second & 0x0F;
-    let form = (second >> 4) & 3;
-    let (kind, value, end) = if form == 3 {
-        let kind = long_kind(bits).ok_or(Clause::ControlReserved)?;
-        let value = *body.get(at + 2).ok_or(Clause::ControlValueCut)?;
-        (kind, value, at + 3)
-    } else {
-        let short = [Kind::ShortExpression, Kind::ShortPitchBend, Kind::ShortModulation];
-        (short[usize::from(form)], bits, at + 2)
+    let (kind, value, end) = match (second >> 4) & 3 {
+        3 => {
+            let kind = long_kind(bits, voice).map_err(|clause| Refusal::at(clause, at + 1))?;
+            let value = byte_at(body, at + 2, Clause::ControlValueCut)?;
+            check_value(kind, value).map_err(|clause| Refusal::at(clause, at + 2))?;
+            (kind, value, at + 3)
+        }
+        form => {
+            let kind = short_kind(form, bits, voice);
+            (kind.map_err(|clause| Refusal::at(clause, at + 1))?, bits, at + 2)
+        }
     };
-    check_control(kind, value, voice)?;
     Ok(Message { kind, channel: second >> 6, value, gate: 0, start: at, end })
 }
 
-fn long_kind(bits: u8) -> Option<Kind> {
-    match bits {
-        0x0 => Some(Kind::Program),
-        0x1 => Some(Kind::Bank),
-        0x2 => Some(Kind::OctaveShift),
-        0x3 => Some(Kind::Modulation),
-        0x4 => Some(Kind::PitchBend),
-        0x7 => Some(Kind::Volume),
-        0xA => Some(Kind::Pan),
-        0xB => Some(Kind::Expression),
-        _ => None,
+/// The kind of a control of form 3, where the voice has it.
+fn long_kind(bits: u8, voice: Voice) -> Result<Kind, Clause> {
+    let kind = match bits {
+        0x0 => Kind::Program,
+        0x1 => Kind::Bank,
+        0x2 => Kind::OctaveShift,
+        0x3 => Kind::Modulation,
+        0x4 => Kind::PitchBend,
+        0x7 => Kind::Volume,
+        0xA => Kind::Pan,
+        0xB => Kind::Expression,
+        _ => return Err(Clause::ControlReserved),
+    };
+    match (voice, bits) {
+        (Voice::Pcm, 0x0..=0x3) => Err(Clause::PcmForbidsControl),
+        _ => Ok(kind),
     }
 }
 
-fn check_control(kind: Kind, value: u8, voice: Voice) -> Result<(), Clause> {
+/// The kind of a control of form 0, 1 or 2 with that value.
+fn short_kind(form: u8, value: u8, voice: Voice) -> Result<Kind, Clause> {
+    match (voice, form, value) {
+        (Voice::Pcm, 2, _) => Err(Clause::PcmForbidsShort),
+        (_, _, 0) => Err(Clause::ShortValueZero),
+        (_, _, 15) => Err(Clause::ShortValueFifteen),
+        (_, 0, _) => Ok(Kind::ShortExpression),
+        (_, 1, _) => Ok(Kind::ShortPitchBend),
+        _ => Ok(Kind::ShortModulation),
+    }
+}
+
+fn check_value(kind: Kind, value: u8) -> Result<(), Clause> {
     match kind {
-        Kind::Program | Kind::Bank | Kind::OctaveShift | Kind::Modulation
-            if voice == Voice::Pcm =>
-        {
-            Err(Clause::PcmForbidsControl)
-        }
-        Kind::ShortModulation if voice == Voice::Pcm => Err(Clause::PcmForbidsShort),
-        Kind::ShortModulation | Kind::ShortPitchBend | Kind::ShortExpression => match value {
-            0 => Err(Clause::ShortValueZero),
-            15 => Err(Clause::ShortValueFifteen),
-            _ => Ok(()),
-        },
         Kind::Bank => Ok(()),
         Kind::OctaveShift if shift_of(value).is_none() => Err(Clause::ShiftReserved),
         Kind::OctaveShift => Ok(()),
@@ -235,9 +240,8 @@ pub fn read_sequence(body: &[u8], voice: Voice) -> Result<Sequence, Refusal> {
             }
             break;
         }
-        let blame = |clause| Refusal::at(clause, at);
-        let (duration, event) = duration_at(body, at).map_err(blame)?;
-        let (message, end) = event_at(body, event, voice).map_err(blame)?;
+        let (duration, event) = length_at(body, at, &DURATION)?;
+        let (message, end) = event_at(body, event, voice)?;
         sequence.time += u64::from(duration);
         sequence.items.push(Item { start: at, onset: sequence.time });
         sequence.messages.extend(message.map(|message| (sequence.time, message)));

@@ -2,6 +2,7 @@
 
 use second::case::{answer_stream, Case, Operation};
 use second::compare::compare;
+use second::generate::fault::{cells, fault_case};
 use second::listing::listing;
 use second::progress::progress;
 use second::{clauses, generate, soak, tune, tunes};
@@ -10,7 +11,7 @@ use std::process::ExitCode;
 
 const USAGE: &str = "usage: second list FILE | tune | tunes FOLDER | answer | \
 generate OPERATIONS COUNT SEED | generate-all-pitches | \
-generate-many-chunks ROWS | \
+generate-many-chunks ROWS | generate-faults EACH SEED | faults EACH SEED | \
 compare CASES ANSWERS [DIFFERENCE] | clauses OPERATIONS COUNT SEED | soak COUNT SEED";
 
 type Outcome = Result<ExitCode, String>;
@@ -26,6 +27,8 @@ fn main() -> ExitCode {
         ["generate", letters, count, seed] => write_cases(letters, count, seed),
         ["generate-many-chunks", rows] => write_many_chunks(rows),
         ["generate-all-pitches"] => put_cases(generate::all_pitches()),
+        ["generate-faults", each, seed] => write_faults(each, seed),
+        ["faults", each, seed] => count_faults(each, seed),
         ["compare", cases, answers] => compare_files(cases, answers, "difference.case"),
         ["compare", cases, answers, difference] => compare_files(cases, answers, difference),
         ["clauses", letters, count, seed] => count_clauses(letters, count, seed),
@@ -108,6 +111,23 @@ fn write_many_chunks(rows: &str) -> Outcome {
 fn write_cases(letters: &str, count: &str, seed: &str) -> Outcome {
     let (operations, count, seed) = (operations(letters)?, number(count)?, number(seed)?);
     put_cases((0..count).map(|index| generate::case(&operations, seed, index)))
+}
+
+/// Each cell of the table of faults that often.
+fn write_faults(each: &str, seed: &str) -> Outcome {
+    let (each, seed) = (number(each)?, number(seed)?);
+    let count = each * cells().len() as u64;
+    put_cases((0..count).map(|index| fault_case(seed, index).0))
+}
+
+fn count_faults(each: &str, seed: &str) -> Outcome {
+    let (each, seed) = (number(each)?, number(seed)?);
+    let counts = clauses::count_faults(each, seed);
+    put(clauses::fault_table(&counts).as_bytes())?;
+    match counts.values().sum::<u64>() == each * cells().len() as u64 {
+        true => Ok(ExitCode::SUCCESS),
+        false => Err(String::from("a fault is refused for something else")),
+    }
 }
 
 fn compare_files(cases: &str, answers: &str, difference_path: &str) -> Outcome {

@@ -31,11 +31,13 @@ clauses! {
     9: ScoreChunkNotAllowed PcmChunkNotAllowed ScoreSequenceMissing PcmSequenceMissing
        WaveMissing;
     10: SetupEmpty SetupNotExclusive SetupSizeUnderThree SetupCut SetupWithoutEnd;
-    11: SequenceEmpty DurationCut DurationSecondByte EventCut NoteForbidden WaveNumberZero
-        WaveNumberSixtyThree GateZero GateCut GateSecondByte ShortValueZero
-        ShortValueFifteen ControlReserved ControlCut ControlValueCut ValueOver127
-        ShiftReserved PcmForbidsControl PcmForbidsShort ExclusiveSizeUnderThree
-        ExclusiveCut ExclusiveWithoutEnd OtherFullEvent BytesAfterEndMark;
+    11: SequenceEmpty BytesAfterEndMark;
+    20: DurationCut EventCut GateCut GateSecondCut ControlCut ControlValueCut
+        FullEventCut ExclusiveSizeCut ExclusiveCut;
+    21: NoteForbidden WaveNumberZero WaveNumberSixtyThree GateZero;
+    22: ControlReserved PcmForbidsControl PcmForbidsShort OtherFullEvent;
+    23: DurationSecondByte GateSecondByte ShortValueZero ShortValueFifteen ValueOver127
+        ShiftReserved ExclusiveSizeUnderThree ExclusiveWithoutEnd;
     12: SeekEmpty TagCut TagUnknown ColonMissing DataCut SeparatorWrong TagTwice
         TagOutOfOrder LetterOutsideSet;
     13: StreamStartNoAddress StreamStopNoAddress StreamStartOverStop PhraseStartNoAddress

@@ -1,6 +1,6 @@
 //! A setup body: one or more exclusives, with no durations.
 
-use crate::item::{exclusive_at, ExclusiveFault};
+use crate::item::exclusive_at;
 use crate::refusal::{Clause, Refusal};
 
 /// Checks a setup body; places are counted from its start.
@@ -10,19 +10,24 @@ pub fn check_setup(body: &[u8]) -> Result<(), Refusal> {
     }
     let mut at = 0;
     while at < body.len() {
-        match exclusive_at(body, at) {
-            Ok(message) => at = message.end,
-            Err(fault) => return Err(Refusal::at(clause_of(fault), at)),
-        }
+        at = message_end(body, at).map_err(|clause| Refusal::at(clause, at))?;
     }
     Ok(())
 }
 
-fn clause_of(fault: ExclusiveFault) -> Clause {
-    match fault {
-        ExclusiveFault::Other => Clause::SetupNotExclusive,
-        ExclusiveFault::Cut => Clause::SetupCut,
-        ExclusiveFault::SizeUnderThree => Clause::SetupSizeUnderThree,
-        ExclusiveFault::WithoutEnd => Clause::SetupWithoutEnd,
+/// The end of the exclusive at `at`; whatever is wrong with it, the message is blamed.
+fn message_end(body: &[u8], at: usize) -> Result<usize, Clause> {
+    match (body[at], body.get(at + 1)) {
+        (0xFF, Some(0xF0)) => {}
+        (0xFF, None) => return Err(Clause::SetupCut),
+        _ => return Err(Clause::SetupNotExclusive),
+    }
+    match exclusive_at(body, at) {
+        Ok(message) => Ok(message.end),
+        Err(refusal) => Err(match refusal.clause {
+            Clause::ExclusiveSizeUnderThree => Clause::SetupSizeUnderThree,
+            Clause::ExclusiveWithoutEnd => Clause::SetupWithoutEnd,
+            _ => Clause::SetupCut,
+        }),
     }
 }

@@ -4,7 +4,7 @@ mod shared;
 
 use second::check_code::check_code;
 use second::file::{open, read};
-use second::item::{length_at, read_sequence, LengthFault, Voice};
+use second::item::{read_sequence, Voice};
 use second::listing::listing;
 use second::pitch::pitch;
 use second::plain::flatten;
@@ -29,12 +29,13 @@ const PLAIN: [u8; 27] = [
 
 #[test]
 fn durations() {
-    assert_eq!(length_at(&[0x7F], 0), Ok((127, 1)));
-    assert_eq!(length_at(&[0x80, 0x00], 0), Ok((128, 2)));
-    assert_eq!(length_at(&[0x81, 0x02], 0), Ok((258, 2)));
-    assert_eq!(length_at(&[0xFF, 0x7F], 0), Ok((16_511, 2)));
-    assert_eq!(length_at(&[0xFF, 0x80], 0), Err(LengthFault::SecondByte));
-    assert_eq!(length_at(&[0xFF], 0), Err(LengthFault::Cut));
+    let lengths: [(&[u8], u64); 4] =
+        [(&[0x7F], 127), (&[0x80, 0x00], 128), (&[0x81, 0x02], 258), (&[0xFF, 0x7F], 16_511)];
+    for (bytes, value) in lengths {
+        let body = [bytes, &[0xFF, 0x00]].concat();
+        assert_eq!(read_sequence(&body, Voice::Score).unwrap().time, value);
+    }
+    assert_eq!(outcome(read_sequence(&[0xFF, 0x80, 0xFF, 0x00], Voice::Score)), (23, 1));
 }
 
 #[test]
@@ -68,7 +69,7 @@ fn check_code_sample() {
 #[test]
 fn small_bodies() {
     let refused = read_sequence(&[0; 3], Voice::Score).unwrap_err();
-    assert_eq!((refused.number(), refused.place), (11, 0));
+    assert_eq!((refused.number(), refused.place), (23, 2));
     let file = score(STREAM, &[(b"Mtsq", &[0; 4])]);
     assert_eq!(played(&file), (vec![], 0));
     assert_eq!(plain(&file), [0; 4]);

@@ -28,10 +28,10 @@ fn places_of_empty_bodies() {
 }
 
 #[test]
-fn place_of_item_is_its_duration() {
+fn place_of_a_fault_is_its_byte() {
     let body = [0x00, 0x29, 0x14, 0x81, 0x00, 0x2D, 0x14];
-    assert_eq!(refusal(&score(STREAM, &[(b"Mtsq", &body)])), (11, 46));
-    assert_eq!(refusal(&score(STREAM, &[(b"Mtsq", &body[..4])])), (11, 46));
+    assert_eq!(refusal(&score(STREAM, &[(b"Mtsq", &body)])), (21, 48));
+    assert_eq!(refusal(&score(STREAM, &[(b"Mtsq", &body[..4])])), (20, 47));
 }
 
 #[test]
@@ -253,16 +253,16 @@ fn what_pcm_tracks_keep() {
     for body in kept {
         assert_eq!(refusal(&pcm(STREAM, &[(b"Atsq", body), (b"Awa\x01", &[])])), (0, 0));
     }
-    let forbidden: [&[u8]; 6] = [
-        &[0, 0x00, 0x30, 0],
-        &[0, 0x00, 0x31, 0],
-        &[0, 0x00, 0x32, 0],
-        &[0, 0x00, 0x33, 0],
-        &[0, 0x00, 0x21],
-        &[0, 0x40, 0x01],
+    let forbidden: [(&[u8], (u32, usize)); 6] = [
+        (&[0, 0x00, 0x30, 0], (22, 45)),
+        (&[0, 0x00, 0x31, 0], (22, 45)),
+        (&[0, 0x00, 0x32, 0], (22, 45)),
+        (&[0, 0x00, 0x33, 0], (22, 45)),
+        (&[0, 0x00, 0x21], (22, 45)),
+        (&[0, 0x40, 0x01], (21, 44)),
     ];
-    for body in forbidden {
-        assert_eq!(refusal(&pcm(STREAM, &[(b"Atsq", body), (b"Awa\x01", &[])])), (11, 43));
+    for (body, told) in forbidden {
+        assert_eq!(refusal(&pcm(STREAM, &[(b"Atsq", body), (b"Awa\x01", &[])])), told);
     }
 }
 

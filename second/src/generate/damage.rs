@@ -10,7 +10,7 @@ use crate::refusal::Clause;
 
 /// The clauses that a file by itself can be refused by.
 pub fn file_clauses() -> Vec<Clause> {
-    let of_file = |clause: &Clause| matches!(clause.number(), 2..=14 | 17);
+    let of_file = |clause: &Clause| matches!(clause.number(), 2..=14 | 17 | 20..=23);
     Clause::ALL.iter().copied().filter(of_file).collect()
 }
 
@@ -33,7 +33,7 @@ fn damage_body(random: &mut Random, plan: &mut FilePlan, clause: Clause) {
             let track = plan.track(random, None, None);
             damage_setup(random, track, clause);
         }
-        11 => damage_sequence(random, plan, clause),
+        11 | 20..=23 => damage_sequence(random, plan, clause),
         12 => {
             let track = plan.track(random, None, None);
             damage_entries(random, track, clause);

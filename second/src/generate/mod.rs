@@ -7,11 +7,12 @@ mod damage_item;
 mod damage_seek;
 mod damage_tree;
 mod event;
+pub mod fault;
 pub mod file;
 mod large;
 mod mutate;
 mod seek;
-mod sequence;
+pub mod sequence;
 pub mod tree;
 
 use crate::case::{Case, Operation};
