@@ -96,8 +96,7 @@ size_t read_item(const uint8_t *s, size_t n, size_t at, int pcm, struct item *it
     return e + 3 + size;
 }
 
-/* What is wrong with a refused item (20 to 23), places counted from the body's head. These run once in a file at most, and are kept away from
- * the code that reads items. */
+/* What is wrong with a refused item (20 to 23). n is where its body ends, and places are those of the file. */
 
 /* Of a duration or gate time that length_at refuses. */
 static struct refusal length_fault(size_t n, size_t at) { return at + 1 < n ? refuse(23, at + 1) : refuse(20, n); }
@@ -123,22 +122,23 @@ static struct refusal exclusive_fault(const uint8_t *s, size_t n, size_t e) {
     return e + 3 + size > n ? refuse(20, n) : refuse(23, e + 2 + size);
 }
 
-__attribute__((cold, noinline)) static struct refusal item_fault(const uint8_t *s, size_t n, size_t at, int pcm) {
+/* Runs once in a file at most, and is kept away from the code that reads items. */
+__attribute__((cold, noinline)) static struct refusal item_fault(const uint8_t *s, const struct track *t, size_t at) {
     uint32_t value;
-    size_t long_by = length_at(s, n, at, &value), e = at + long_by;
+    size_t n = t->sequence.at + t->sequence.size, long_by = length_at(s, n, at, &value), e = at + long_by;
     if (long_by == 0)
         return length_fault(n, at);
     if (e >= n)
         return refuse(20, n);
     uint8_t b = s[e];
     if (b != 0 && b != 0xFF) {
-        if (pcm ? (b & 63) == 0 || (b & 63) == 63 : (b & 15) == 0 || (b & 15) > 12)
+        if (t->pcm ? (b & 63) == 0 || (b & 63) == 63 : (b & 15) == 0 || (b & 15) > 12)
             return refuse(21, e);
         return length_at(s, n, e + 1, &value) ? refuse(21, e + 1) : length_fault(n, e + 1);
     }
     if (e + 1 >= n)
         return refuse(20, n);
-    return b == 0 ? control_fault(s, n, e, pcm) : exclusive_fault(s, n, e);
+    return b == 0 ? control_fault(s, n, e, t->pcm) : exclusive_fault(s, n, e);
 }
 
 /* Which places of a sequence body are addresses, noted while it is checked. */
@@ -159,10 +159,8 @@ static struct refusal check_sequence(const uint8_t *s, struct track *t) {
     while (at < n) {
         struct item item;
         size_t next = read_item(body, n, at, t->pcm, &item);
-        if (next == 0) {
-            struct refusal fault = item_fault(body, n, at, t->pcm);
-            return refuse(fault.number, t->sequence.at + fault.place);
-        }
+        if (next == 0)
+            return item_fault(s, t, t->sequence.at + at);
         if (noted)
             addresses[at / 64] |= 1ull << at % 64;
         if (item.what == END_MARK && next < n)
