@@ -1,0 +1,3 @@
+-- The theorems, and the laws below them, each file resting on those above it.
+pub mod Agreement
+pub mod Exact
