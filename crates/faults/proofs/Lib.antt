@@ -1,3 +1,4 @@
 -- The theorems, and the laws below them, each file resting on those above it.
 pub mod Agreement
 pub mod Exact
+pub mod Durations
