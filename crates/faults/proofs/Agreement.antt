@@ -54,11 +54,12 @@ module _ (s : List ℕ) (place : ℕ) where
               ap (λ (k : ℕ). (take place s ++ rest) ! k) there ∙ getD-append-add (take place s) rest i 0;
         }
 
--- the bytes of a list that is written out
+-- every one of some bytes is one
+abbrev pub AreBytes : List ℕ → Type 0
+AreBytes [] = Unit
+AreBytes (byte ∷ rest) = (byte < 256) × AreBytes rest
 
-pub no-bytes : (k : ℕ) → [] ! k < 256
-no-bytes k = omega arith
-
-pub byte-first : (byte : ℕ) (rest : List ℕ) → byte < 256 → ((k : ℕ) → rest ! k < 256) → (k : ℕ) → (byte ∷ rest) ! k < 256
-byte-first byte rest h bytes zero = h
-byte-first byte rest h bytes (suc k) = bytes k
+pub each-byte : (list : List ℕ) → AreBytes list → (k : ℕ) → list ! k < 256
+each-byte [] h k = omega arith
+each-byte (byte ∷ rest) h zero = h .0
+each-byte (byte ∷ rest) h (suc k) = each-byte rest (h .1) k

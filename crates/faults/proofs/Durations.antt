@@ -12,7 +12,7 @@ use Rattle.model.specs.Duration.{twoByteValue, durationAt, notZero, gateAt}
 use Rattle.model.specs.declared.ReadDuration.{ReadDuration}
 use Rattle.model.specs.declared.ReadDuration.the-variants.{Is, Refused}
 use Rattle.model.proofs.Tests.{if-all}
-use Rattle.faults.proofs.Agreement.{Agree, Continued, no-bytes, byte-first}
+use Rattle.faults.proofs.Agreement.{Agree, Continued}
 use Rattle.faults.proofs.Exact.{Seen, Seen.ends, Seen.fails, Mended, Fault, Exact, exact-as, cut-here, wrong-here}
 
 abbrev pub durationSeen : ReadDuration → Seen
@@ -33,7 +33,7 @@ module _ (s : List ℕ) (at : ℕ) (here : at < length s) where
   second-mended =
       record {
         rest = 0x01 ∷ [];
-        bytes = byte-first 0x01 [] (omega arith) no-bytes;
+        bytes = omega arith;
         reads = λ t c.
             let room : at + 1 < length t = omega arith in
             let byte : t ! (at + 1) ≡ 0x01 = c .then-byte (at + 1) 0 (omega arith) (omega arith) in
@@ -94,7 +94,7 @@ module _ (s : List ℕ) (at : ℕ) where
   gate-mended within =
       record {
         rest = 0x01 ∷ [];
-        bytes = byte-first 0x01 [] (omega arith) no-bytes;
+        bytes = omega arith;
         reads = λ t c.
             let room : at < length t = omega arith in
             let byte : t ! at ≡ 0x01 = c .then-byte at 0 (omega arith) (omega arith) in

@@ -6,8 +6,7 @@ use mathlib.Core.Logic.{_⊎_, inl, inr}
 use mathlib.Core.Path.{_≡_, refl, sym, _∙_, ap, subst}
 use lib.ListN.{length}
 use native.Mathlib.Omega.{arith}
-use Rattle.model.specs.Bytes.{_!_}
-use Rattle.faults.proofs.Agreement.{Agree, agree-fewer, Continued}
+use Rattle.faults.proofs.Agreement.{Agree, agree-fewer, Continued, AreBytes}
 
 -- where a thing ends, or its fault
 pub data Seen : Type 0 where
@@ -18,7 +17,7 @@ module _ {R : Type 0} (seen : R → Seen) (s : List ℕ) (read : List ℕ → R)
   -- bytes that would make it readable, in the place of those from a place on
   pub record Mended (place : ℕ) : Type 0 where
     pub rest : List ℕ
-    pub bytes : (k : ℕ) → rest ! k < 256
+    pub bytes : AreBytes rest
     pub reads : (t : List ℕ) → Continued s place rest t → seen (read t) ≡ ends (place + length rest)
 
   -- the byte at a place cannot stand

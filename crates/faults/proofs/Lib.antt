@@ -2,3 +2,4 @@
 pub mod Agreement
 pub mod Exact
 pub mod Durations
+pub mod Controls
