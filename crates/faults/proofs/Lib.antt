@@ -3,3 +3,4 @@ pub mod Agreement
 pub mod Exact
 pub mod Durations
 pub mod Controls
+pub mod Systems
