@@ -4,3 +4,4 @@ pub mod Exact
 pub mod Durations
 pub mod Controls
 pub mod Systems
+pub mod Events
