@@ -95,7 +95,7 @@ static const uint8_t one_letter[1];
 static const uint8_t *letters;
 static size_t letter_count;
 
-/* Finds the track of a row and its order: 1 to 14, 16, 17. */
+/* Finds the track of a row and its order: 1 to 14, 20 to 23, 16, 17. */
 static struct refusal perform(const uint8_t *s, size_t length, size_t n, size_t row, struct file *file) {
     if (n > length || n > 65536)
         return (struct refusal){1, 0};

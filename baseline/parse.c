@@ -1,4 +1,4 @@
-/* The checks of a file: frame, tracks, items, points (2 to 14). */
+/* The checks of a file: frame, tracks, items, points (2 to 14, 20 to 23). */
 #include "parse.h"
 
 #include <string.h>
@@ -96,6 +96,51 @@ size_t read_item(const uint8_t *s, size_t n, size_t at, int pcm, struct item *it
     return e + 3 + size;
 }
 
+/* What is wrong with a refused item (20 to 23). n is where its body ends, and places are those of the file. */
+
+/* Of a duration or gate time that length_at refuses. */
+static struct refusal length_fault(size_t n, size_t at) { return at + 1 < n ? refuse(23, at + 1) : refuse(20, n); }
+
+static struct refusal control_fault(const uint8_t *s, size_t n, size_t e, int pcm) {
+    uint32_t form = s[e + 1] >> 4 & 3, low = s[e + 1] & 15;
+    uint32_t kind = form == 3 ? long_kind[low] : short_kind[form];
+    if (kind == 0 || (pcm && score_only[kind]))
+        return refuse(22, e + 1);
+    if (form != 3)
+        return refuse(23, e + 1);
+    return e + 2 < n ? refuse(23, e + 2) : refuse(20, n);
+}
+
+static struct refusal exclusive_fault(const uint8_t *s, size_t n, size_t e) {
+    if (s[e + 1] != 0xF0)
+        return refuse(22, e + 1);
+    if (e + 2 >= n)
+        return refuse(20, n);
+    size_t size = s[e + 2];
+    if (size < 3)
+        return refuse(23, e + 2);
+    return e + 3 + size > n ? refuse(20, n) : refuse(23, e + 2 + size);
+}
+
+/* Runs once in a file at most, and is kept away from the code that reads items. */
+__attribute__((cold, noinline)) static struct refusal item_fault(const uint8_t *s, const struct track *t, size_t at) {
+    uint32_t value;
+    size_t n = t->sequence.at + t->sequence.size, long_by = length_at(s, n, at, &value), e = at + long_by;
+    if (long_by == 0)
+        return length_fault(n, at);
+    if (e >= n)
+        return refuse(20, n);
+    uint8_t b = s[e];
+    if (b != 0 && b != 0xFF) {
+        if (t->pcm ? (b & 63) == 0 || (b & 63) == 63 : (b & 15) == 0 || (b & 15) > 12)
+            return refuse(21, e);
+        return length_at(s, n, e + 1, &value) ? refuse(21, e + 1) : length_fault(n, e + 1);
+    }
+    if (e + 1 >= n)
+        return refuse(20, n);
+    return b == 0 ? control_fault(s, n, e, t->pcm) : exclusive_fault(s, n, e);
+}
+
 /* Which places of a sequence body are addresses, noted while it is checked. */
 static uint64_t addresses[65537 / 64 + 1];
 
@@ -115,7 +160,7 @@ static struct refusal check_sequence(const uint8_t *s, struct track *t) {
         struct item item;
         size_t next = read_item(body, n, at, t->pcm, &item);
         if (next == 0)
-            return refuse(11, t->sequence.at + at);
+            return item_fault(s, t, t->sequence.at + at);
         if (noted)
             addresses[at / 64] |= 1ull << at % 64;
         if (item.what == END_MARK && next < n)

@@ -53,7 +53,7 @@ struct item {
 };
 size_t read_item(const uint8_t *s, size_t n, size_t at, int pcm, struct item *item);
 
-/* Checks a file of n bytes (2 to 14) and notes the track of a row, where the row names one. */
+/* Checks a file of n bytes (2 to 14, 20 to 23) and notes the track of a row, where the row names one. */
 struct refusal check_file(const uint8_t *s, size_t n, size_t row, struct file *file);
 
 #endif

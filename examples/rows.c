@@ -25,11 +25,15 @@ static const char *const meanings[] = {
     "a track of unknown format, sequence type or time base, or too short",
     "a sub-chunk is not allowed there, or a required one is missing",
     "a setup body is empty, or not made of exclusives",
-    "a sequence body is empty, or an item in it is bad",
+    "a sequence body is empty, or goes on after its end mark",
     "a seek body is empty or malformed",
     "an address or a position is against the rules",
     "a letter of an order list has no phrase",
     "the table of rows is too short",
+    [20] = "the sequence body ends here, and its last item needs more bytes",
+    [21] = "a forbidden note or wave number, or a gate time of 0",
+    [22] = "a reserved event or control, or one that a PCM track has not",
+    [23] = "a reserved value, or a bad byte of a duration, a gate time or an exclusive",
 };
 
 static int complain(const char *what, const char *name)

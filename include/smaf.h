@@ -23,7 +23,8 @@
  * - There is stack for the call: 128 KiB is enough.
  *
  * REFUSALS and their places, in the order in which they are tried: first the file's own chunk list; then each track in file order, from 8 on,
- * its chunk list for 4, 9 and 6 before the rest of 9.
+ * its chunk list for 4, 9 and 6 before the rest of 9. A sequence body is tried for 11 and 20 to 23 item by item; of several faults of one
+ * item the earliest byte counts, then the lower number.
  *
  *    1  n is over buffer_length, or over 65,536                              0
  *    2  n is below 10, or the first four bytes are not MMMD                  0
@@ -35,8 +36,13 @@
  *    8  a track of unknown format, sequence type or time base, or too short  the track's body
  *    9  a sub-chunk that is not allowed; a required one that is missing      its header; the track's
  *   10  a setup body that is empty, or not exclusives                        the body; the bad message
- *   11  a sequence body that is empty; an item refused or cut short; bytes   the body; the item; the first
- *       after the end mark                                                   such byte
+ *   11  a sequence body that is empty; bytes after the end mark              the body; the first such byte
+ *   20  an item cut short                                                    the byte after the body's last
+ *   21  a forbidden note or wave number; a gate time of 0                    the event's first byte; the gate byte
+ *   22  a reserved event or control, or one that a PCM track has not         its second byte
+ *   23  a reserved value (a short form's 0 or 15 too), a second byte over    that byte; for a short form the
+ *       0x7F of a duration or gate time, a size under 3 or an ending other   control's second
+ *       than 0xF7 of an exclusive
  *   12  a seek body that is empty or malformed                               the body; the entry
  *   13  an address or a position against the rules                           the entry
  *   14  a letter without a phrase                                            the letter
@@ -71,7 +77,7 @@ extern "C" {
  *
  * No file has more than 8,191 rows, so a table of 32,768 numbers is never refused with 15. */
 struct smaf_read_reply {
-    uint32_t refusal; /* 0, or 1 to 15 */
+    uint32_t refusal; /* 0, 1 to 15, or 20 to 23 */
     size_t place;
     size_t count;  /* how many rows the file has */
     uint16_t code; /* the check code, computed from the file's bytes */
@@ -89,7 +95,7 @@ struct smaf_read_reply smaf_read(const uint8_t *buffer, size_t buffer_length, si
  *
  * Accepted: the first `count` numbers of `steps` and of `words` are the played rows, the rest is as it was. Refused: both are as they were. */
 struct smaf_play_reply {
-    uint32_t refusal; /* 0, or 1 to 17 */
+    uint32_t refusal; /* 0, 1 to 17, or 20 to 23 */
     size_t place;
     size_t count; /* how many messages the track plays */
     uint64_t end; /* the step at which it ends */
@@ -102,7 +108,7 @@ struct smaf_play_reply smaf_play(const uint8_t *buffer, size_t buffer_length, si
  * Accepted: the first `length` bytes of `room` are the plain form, end mark and all, the rest is as it was. Refused: `room` is as it was. A
  * room of 65,536 bytes is enough for every plain form that there is. */
 struct smaf_flatten_reply {
-    uint32_t refusal; /* 0, 1 to 14, or 16 to 18 */
+    uint32_t refusal; /* 0, 1 to 14, 16 to 18, or 20 to 23 */
     size_t place;
     size_t length; /* how many bytes the plain form has */
 };

@@ -289,13 +289,44 @@ fn after_closed_tracks() -> Vec<u8> {
     file(&[chunk(b"OPDA", b"a leaf"), chunk(b"MTR\x01", &[2, 0, 0]), chunk(b"GTR\0", &[]), open])
 }
 
-fn gate_of_zero() -> Vec<u8> {
-    let body = vec![0x00, 0x29, 0x14, 0x10, 0x29, 0x00];
+/// A stream whose body is damaged, by its bytes.
+fn damaged(body: Vec<u8>) -> Vec<u8> {
     file(&[score(STREAM, TEN, &[(b"Mtsq", body)])])
 }
 
+fn gate_of_zero() -> Vec<u8> {
+    damaged(vec![0x00, 0x29, 0x14, 0x10, 0x29, 0x00])
+}
+
+/// The ode, whose last note has lost its gate time.
+fn cut_short() -> Vec<u8> {
+    let mut body = Body::default();
+    ode(&mut body);
+    body.bytes.pop();
+    damaged(body.bytes)
+}
+
+/// A line with an event that means nothing between its second note and its third.
+fn reserved_event() -> Vec<u8> {
+    let mut body = Body::default();
+    body.melody(0, &JACQUES[0][..2]);
+    body.event(&[0xFF, 0x01]);
+    body.melody(0, &JACQUES[0][2..]);
+    damaged(body.ended())
+}
+
+/// Three long notes; the second byte of the wait before the second note has its top bit set.
+fn bad_duration() -> Vec<u8> {
+    let mut body = Body::default();
+    body.note(0, 60, 2 * HALF);
+    let wait = body.bytes.len();
+    body.melody(0, &[(64, 2 * HALF), (67, 2 * HALF)]);
+    body.bytes[wait + 1] |= 0x80;
+    damaged(body.ended())
+}
+
 pub fn all() -> Vec<Tune> {
-    let tunes: [(&'static str, Vec<u8>); 16] = [
+    let tunes: [(&'static str, Vec<u8>); 19] = [
         ("worked", worked_tune()),
         ("ode_to_joy", ode_to_joy()),
         ("second_line", second_line()),
@@ -310,7 +341,10 @@ pub fn all() -> Vec<Tune> {
         ("empty_order", phrase_track(b",SL:")),
         ("after_closed_tracks", after_closed_tracks()),
         ("no_order", phrase_track(b"")),
+        ("cut_short", cut_short()),
         ("gate_of_zero", gate_of_zero()),
+        ("reserved_event", reserved_event()),
+        ("bad_duration", bad_duration()),
         ("no_readable_track", file(&[chunk(b"GTR\0", b"pictures")])),
     ];
     tunes.map(|(name, file)| Tune { name, file }).into()

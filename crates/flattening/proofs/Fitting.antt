@@ -36,14 +36,14 @@ Inside s (Exclusive place size) = exclusiveFits s place size ≡ true
 
 abbrev ReadInside : List ℕ → ReadEvent → Type 0
 ReadInside s (event.Is what next) = Inside s what
-ReadInside s event.Refused = Unit
+ReadInside s (event.Refused number place) = Unit
 
 module _ (s : List ℕ) where
   gated-inside : (voice : Voice) (byte : ℕ) (d : ReadDuration) → ReadInside s (gated voice byte d)
   unfolding gated sound
   gated-inside Score byte (duration.Is value next) = tt
   gated-inside Pcm byte (duration.Is value next) = tt
-  gated-inside voice byte duration.Refused = tt
+  gated-inside voice byte (duration.Refused number place) = tt
 
   module _ (voice : Voice) (at : ℕ) where
     sound-inside : ReadInside s (soundAt voice s at)
@@ -115,20 +115,20 @@ module _ (s : List ℕ) where
     ItemFits (EndMark next) = Unit
     ItemFits (Refused number place) = Unit
 
-    with-event-fits : (at value next : ℕ) (e : ReadEvent) → EventStands voice s next e → ReadInside s e → ItemFits (withEvent at value e)
+    with-event-fits : (value next : ℕ) (e : ReadEvent) → EventStands voice s next e → ReadInside s e → ItemFits (withEvent value e)
     unfolding withEvent
-    with-event-fits at value next (event.Is what after) st i = fits-inside voice what (st .0) i
-    with-event-fits at value next event.Refused st i = tt
+    with-event-fits value next (event.Is what after) st i = fits-inside voice what (st .0) i
+    with-event-fits value next (event.Refused number place) st i = tt
 
-    with-duration-fits : (at : ℕ) (d : ReadDuration) → ItemFits (withDuration voice s at d)
+    with-duration-fits : (d : ReadDuration) → ItemFits (withDuration voice s d)
     unfolding withDuration
-    with-duration-fits at (duration.Is value next) =
-        with-event-fits at value next (eventAt voice s next) (event-stands s bytes voice next) (event-inside voice next)
-    with-duration-fits at duration.Refused = tt
+    with-duration-fits (duration.Is value next) =
+        with-event-fits value next (eventAt voice s next) (event-stands s bytes voice next) (event-inside voice next)
+    with-duration-fits (duration.Refused number place) = tt
 
     item-fits : (at : ℕ) → ItemFits (itemAt voice s at)
     unfolding itemAt
-    item-fits at = if-all ItemFits (isEndMark s at) _ _ (λ h. tt) (λ h. with-duration-fits at (durationAt s at))
+    item-fits at = if-all ItemFits (isEndMark s at) _ _ (λ h. tt) (λ h. with-duration-fits (durationAt s at))
 
     pub read-fits : (at value : ℕ) (what : Event) (next : ℕ) → itemAt voice s at ≡ Timed value what next → eventFits voice s what ≡ true
     read-fits at value what next e = subst ItemFits e (item-fits at)

@@ -62,7 +62,7 @@ module _ (voice : Voice) (s : List ℕ) (bytes : (k : ℕ) → s ! k < 256) wher
     body-fits = stand-writes placed 0 (body-stands voice s placed reads) .0
 
     pub body-marked : MarkLast (contentsIn s placed)
-    body-marked = passes-marked s placed [] (body-passes voice s placed reads)
+    body-marked = passes-marked voice s placed [] 0 (body-stands voice s placed reads) (body-passes voice s placed reads)
 
     pub body-writes : bytesOf handyPhone (contentsIn s placed) ≡ s
     body-writes = stand-writes placed 0 (body-stands voice s placed reads) .1

@@ -7,7 +7,7 @@ use lib.ListN.{length, length-append, length-map}
 use native.Mathlib.Nat.{add-zero}
 use native.Mathlib.Omega.{arith}
 use Rattle.model.specs.Words.{Placed, Checked.fine, Step.met}
-use Rattle.model.specs.Item.{Item, Item.timed, Item.endMark, afterEndMark, itemMet, itemStep, bodyOf}
+use Rattle.model.specs.Item.{Item, Item.timed, Item.endMark, itemMet, itemStep, bodyOf}
 use Rattle.model.specs.Plain.{itemBytes, bytesOf}
 use Rattle.model.specs.Content.{Content, contentIn, contentsIn, handyPhone}
 use Rattle.model.specs.declared.Voice.{Voice}
@@ -50,11 +50,11 @@ module _ (voice : Voice) (s : List ℕ) where
 
 pub sequence-reads : (voice : Voice) (items : List (Item Content)) → 0 < length items → AllFit voice items → MarkLast items
     → (placed : List (Placed (Item Event))) × (bodyOf voice (bytesOf handyPhone items) ≡ fine placed) × (contentsIn (bytesOf handyPhone items) placed ≡ items)
-unfolding afterEndMark contentsIn
+unfolding contentsIn
 sequence-reads voice items some fit marked =
     let s = bytesOf handyPhone items in
     let all = all-meet voice s items 0 fit (subst (λ (t : List ℕ). Stands t 0 s) (append-nil s) (stands-between [] s [])) (omega arith) in
     let same = all .2 in
     let many : length (all .0) ≡ length items = sym (length-map (all .0) _) ∙ ap length same in
-    let passes = marked-passes s (all .0) [] refl (subst MarkLast (sym same) marked) in
+    let passes = marked-passes voice s (all .0) [] 0 (all .1) (subst MarkLast (sym same) marked) in
     (all .0, body-reads-to voice s (all .0) (some-bytes voice s (all .0) (omega arith) (all .1)) (all .1) passes, same)

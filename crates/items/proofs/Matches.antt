@@ -24,44 +24,45 @@ use Rattle.model.specs.declared.ReadItem.the-variants as item
 
 -- a callee's duration d is the definition's e
 
-pub not-zero-is : (d e : ReadDuration) (value next : ℕ) (z : ReadDuration) → d ≡ e → d ≡ duration.Is value next
-    → z ≡ (if value ≡? 0 then duration.Refused else duration.Is value next) → z ≡ notZero e
+pub not-zero-is : (at : ℕ) (d e : ReadDuration) (value next : ℕ) (z : ReadDuration) → d ≡ e → d ≡ duration.Is value next
+    → z ≡ (if value ≡? 0 then duration.Refused 21 at else duration.Is value next) → z ≡ notZero at e
 unfolding notZero
-not-zero-is d e value next z p q h = rw (← p, q) h
+not-zero-is at d e value next z p q h = rw (← p, q) h
 
-pub not-zero-refused : (d e z : ReadDuration) → d ≡ e → d ≡ duration.Refused → z ≡ duration.Refused → z ≡ notZero e
+pub not-zero-refused : (at : ℕ) (d e : ReadDuration) (number place : ℕ) (z : ReadDuration) → d ≡ e → d ≡ duration.Refused number place
+    → z ≡ duration.Refused number place → z ≡ notZero at e
 unfolding notZero
-not-zero-refused d e z p q h = rw (← p, q) h
+not-zero-refused at d e number place z p q h = rw (← p, q) h
 
 pub gated-is : (voice : Voice) (byte : ℕ) (d e : ReadDuration) (value next : ℕ) (made : Event) → d ≡ e → d ≡ duration.Is value next
     → made ≡ sound voice byte value → event.Is made next ≡ gated voice byte e
 unfolding gated
 gated-is voice byte d e value next made p q h = rw (← p, q) (ap (λ (x : Event). event.Is x next) h)
 
-pub gated-refused : (voice : Voice) (byte : ℕ) (d e : ReadDuration) (z : ReadEvent) → d ≡ e → d ≡ duration.Refused → z ≡ event.Refused
-    → z ≡ gated voice byte e
+pub gated-refused : (voice : Voice) (byte : ℕ) (d e : ReadDuration) (number place : ℕ) (z : ReadEvent) → d ≡ e
+    → d ≡ duration.Refused number place → z ≡ event.Refused number place → z ≡ gated voice byte e
 unfolding gated
-gated-refused voice byte d e z p q h = rw (← p, q) h
+gated-refused voice byte d e number place z p q h = rw (← p, q) h
 
-pub with-event-is : (at length : ℕ) (d e : ReadEvent) (what : Event) (next : ℕ) (z : ReadItem) → d ≡ e → d ≡ event.Is what next
-    → z ≡ item.Timed length what next → z ≡ withEvent at length e
+pub with-event-is : (length : ℕ) (d e : ReadEvent) (what : Event) (next : ℕ) (z : ReadItem) → d ≡ e → d ≡ event.Is what next
+    → z ≡ item.Timed length what next → z ≡ withEvent length e
 unfolding withEvent
-with-event-is at length d e what next z p q h = rw (← p, q) h
+with-event-is length d e what next z p q h = rw (← p, q) h
 
-pub with-event-refused : (at length : ℕ) (d e : ReadEvent) (z : ReadItem) → d ≡ e → d ≡ event.Refused → z ≡ item.Refused 11 at
-    → z ≡ withEvent at length e
+pub with-event-refused : (length : ℕ) (d e : ReadEvent) (number place : ℕ) (z : ReadItem) → d ≡ e → d ≡ event.Refused number place
+    → z ≡ item.Refused number place → z ≡ withEvent length e
 unfolding withEvent
-with-event-refused at length d e z p q h = rw (← p, q) h
+with-event-refused length d e number place z p q h = rw (← p, q) h
 
-pub with-duration-is : (voice : Voice) (s : List ℕ) (at : ℕ) (d e : ReadDuration) (value next : ℕ) (z : ReadItem) → d ≡ e
-    → d ≡ duration.Is value next → z ≡ withEvent at value (eventAt voice s next) → z ≡ withDuration voice s at e
+pub with-duration-is : (voice : Voice) (s : List ℕ) (d e : ReadDuration) (value next : ℕ) (z : ReadItem) → d ≡ e
+    → d ≡ duration.Is value next → z ≡ withEvent value (eventAt voice s next) → z ≡ withDuration voice s e
 unfolding withDuration
-with-duration-is voice s at d e value next z p q h = rw (← p, q) h
+with-duration-is voice s d e value next z p q h = rw (← p, q) h
 
-pub with-duration-refused : (voice : Voice) (s : List ℕ) (at : ℕ) (d e : ReadDuration) (z : ReadItem) → d ≡ e → d ≡ duration.Refused
-    → z ≡ item.Refused 11 at → z ≡ withDuration voice s at e
+pub with-duration-refused : (voice : Voice) (s : List ℕ) (d e : ReadDuration) (number place : ℕ) (z : ReadItem) → d ≡ e
+    → d ≡ duration.Refused number place → z ≡ item.Refused number place → z ≡ withDuration voice s e
 unfolding withDuration
-with-duration-refused voice s at d e z p q h = rw (← p, q) h
+with-duration-refused voice s d e number place z p q h = rw (← p, q) h
 
 -- the two voices
 

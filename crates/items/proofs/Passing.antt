@@ -49,30 +49,30 @@ module _ (voice : Voice) (s : List ℕ) (at : ℕ) (there : at + 1 < length s) (
       absurd (control (eqb-true (s ! (at + 1)) 0 (and-left _ _ (and-right _ _ (and-right _ _ h))))))
       (λ t. t)
 
-  pub sounds-here : itemAt voice s at ≡ withEvent at (s ! at) (soundAt voice s (at + 1))
+  pub sounds-here : itemAt voice s at ≡ withEvent (s ! at) (soundAt voice s (at + 1))
   unfolding itemAt withDuration durationAt eventAt if_then_else_
   sounds-here = let here : at < length s = omega arith in simp (no-mark, lt-leb, lt-ltb, ne-eqb)
 
   -- and its gate time takes one byte too
   module _ (room : at + 2 < length s) (short : s ! (at + 2) < 128) where
-    gate-is : gateAt s (at + 1 + 1) ≡ notZero (duration.Is (s ! (at + 2)) (at + 3))
+    gate-is : gateAt s (at + 1 + 1) ≡ notZero (at + 2) (duration.Is (s ! (at + 2)) (at + 3))
     unfolding gateAt durationAt if_then_else_
     gate-is =
         let place : at + 1 + 1 ≡ at + 2 = omega arith in
         let after : at + 2 + 1 ≡ at + 3 = omega arith in
         simp (place, lt-leb, lt-ltb, after)
 
-    gated-ends : EndsAt (at + 3) (withEvent at (s ! at) (gated voice (s ! (at + 1)) (notZero (duration.Is (s ! (at + 2)) (at + 3)))))
+    gated-ends : EndsAt (at + 3) (withEvent (s ! at) (gated voice (s ! (at + 1)) (notZero (at + 2) (duration.Is (s ! (at + 2)) (at + 3)))))
     unfolding notZero gated withEvent EndsAt
     gated-ends =
-        if-all (λ (d : ReadDuration). EndsAt (at + 3) (withEvent at (s ! at) (gated voice (s ! (at + 1)) d))) (s ! (at + 2) ≡? 0) _ _ (λ t. tt) (λ t. refl)
+        if-all (λ (d : ReadDuration). EndsAt (at + 3) (withEvent (s ! at) (gated voice (s ! (at + 1)) d))) (s ! (at + 2) ≡? 0) _ _ (λ t. tt) (λ t. refl)
 
     pub short-ends : EndsAt (at + 3) (itemAt voice s at)
     unfolding soundAt withEvent EndsAt
     short-ends =
         subst (EndsAt (at + 3)) (sym sounds-here)
-        (if-all (λ (e : ReadEvent). EndsAt (at + 3) (withEvent at (s ! at) e)) (isSound voice (s ! (at + 1))) _ _
-        (λ t. subst (λ (d : ReadDuration). EndsAt (at + 3) (withEvent at (s ! at) (gated voice (s ! (at + 1)) d))) (sym gate-is) gated-ends)
+        (if-all (λ (e : ReadEvent). EndsAt (at + 3) (withEvent (s ! at) e)) (isSound voice (s ! (at + 1))) _ _
+        (λ t. subst (λ (d : ReadDuration). EndsAt (at + 3) (withEvent (s ! at) (gated voice (s ! (at + 1)) d))) (sym gate-is) gated-ends)
         (λ t. tt))
 
 -- A SHORT ONE, as a test tells it

@@ -8,10 +8,10 @@ use native.Mathlib.Nat.{add-zero, zero-add}
 use native.Mathlib.Omega.{arith}
 use mir.Val.{Fits}
 use mir.Syntax.{w64}
-use borrow.Author.Tests.{eq-eqb, ne-eqb, eqb-true, eqb-false}
-use Rattle.model.specs.Words.{if_then_else_, _≡?_, sum, Placed, Checked, Checked.fine, Checked.refused, passed, Step.met, walkTo, inTurn}
+use borrow.Author.Tests.{eq-eqb, ne-eqb, eqb-true, eqb-false, le-ltb, lt-ltb}
+use Rattle.model.specs.Words.{if_then_else_, _and_, _≡?_, sum, Placed, Checked, Checked.fine, Checked.refused, passed, Step.met, walkTo, inTurn}
 use Rattle.model.specs.Bytes.{_!_}
-use Rattle.model.specs.Item.{Item, Item.timed, Item.endMark, durationOf, lasting, itemAt, itemMet, itemStep, isMark, afterEndMark, notAfterEndMark, bodyOf, bodyAnswer}
+use Rattle.model.specs.Item.{Item, Item.timed, Item.endMark, durationOf, lasting, itemAt, itemMet, itemStep, isMark, markIsLast, bodyOf, bodyAnswer}
 use Rattle.model.specs.declared.Voice.{Voice}
 use Rattle.model.specs.declared.Event.{Event}
 use Rattle.model.specs.declared.ReadItem.{ReadItem}
@@ -47,23 +47,26 @@ unfolding onto withFirst lasting sum
 onto-first count lasts item (fine items) = ap₂ body.Whole (omega arith) (omega arith)
 onto-first count lasts item (refused number place) = refl
 
--- nothing may follow an end mark
-module _ {E : Type 0} (before : List (Placed (Item E))) (item : Placed (Item E)) where
-  pub unmarked-passes : afterEndMark before ≡ false → notAfterEndMark before item ≡ passed
-  unfolding notAfterEndMark if_then_else_
-  unmarked-passes h = rw h
+-- an end mark is the last four bytes
+module _ {E : Type 0} (size : ℕ) (before : List (Placed (Item E))) (item : Placed (Item E)) where
+  pub unmarked-passes : isMark (item .what) ≡ false → markIsLast size before item ≡ passed
+  unfolding markIsLast _and_ if_then_else_
+  unmarked-passes e = rw e
 
-  pub marked-refuses : afterEndMark before ≡ true → notAfterEndMark before item ≡ refused 11 (item .place)
-  unfolding notAfterEndMark if_then_else_
-  marked-refuses h = rw h
+  pub last-passes : size ≤ item .place + 4 → markIsLast size before item ≡ passed
+  unfolding markIsLast _and_ if_then_else_
+  last-passes h = by-test (isMark (item .what)) (λ e. simp (e, le-ltb)) (λ e. rw e)
+
+  pub mark-refuses : isMark (item .what) ≡ true → item .place + 4 < size → markIsLast size before item ≡ refused 11 (item .place + 4)
+  unfolding markIsLast _and_ if_then_else_
+  mark-refuses e h = simp (e, lt-ltb)
 
 pub record Reading (voice : Voice) (s : List ℕ) (at count lasts : ℕ) : Type 0 where
   pub before : List (Placed (Item Event))
   pub left : Checked (List (Placed (Item Event)))
-  pub walk : Left 11 (length s) (itemStep voice s) notAfterEndMark at before left
+  pub walk : Left 11 (length s) (itemStep voice s) (markIsLast (length s)) at before left
   pub few : count ≤ at
   pub small : lasts ≤ 4294967296 * at
-  pub unmarked : afterEndMark before ≡ false
   pub same : onto count lasts left ≡ bodyAnswer (bodyOf voice s)
 
 pub body-empty : (voice : Voice) (s : List ℕ) → length s ≡ 0 → body.Refused 11 0 ≡ bodyAnswer (bodyOf voice s)
@@ -71,15 +74,14 @@ unfolding bodyOf if_then_else_ bodyAnswer
 body-empty voice s h = simp eq-eqb
 
 pub body-starts : (voice : Voice) (s : List ℕ) → (length s ≡ 0 → ⊥) → Reading voice s 0 0 0
-unfolding bodyOf if_then_else_ afterEndMark
+unfolding bodyOf if_then_else_
 body-starts voice s h =
     record {
       before = [];
-      left = inTurn notAfterEndMark [] (walkTo 11 (length s) (itemStep voice s) 0);
-      walk = left-starts 11 (length s) (itemStep voice s) notAfterEndMark 0 (omega arith);
+      left = inTurn (markIsLast (length s)) [] (walkTo 11 (length s) (itemStep voice s) 0);
+      walk = left-starts 11 (length s) (itemStep voice s) (markIsLast (length s)) 0 (omega arith);
       few = omega arith;
       small = omega arith;
-      unmarked = refl;
       same = onto-none _ ∙ simp ne-eqb;
     }
 
@@ -104,61 +106,54 @@ module _ (voice : Voice) (s : List ℕ) (at count lasts : ℕ) (r : Reading voic
     pub body-nears : (duration next : ℕ) (event : Event) → i ≡ Timed duration event next → length s - next < length s - at
     body-nears duration next event e = let a = ahead (Timed duration event next) e in omega arith
 
-    -- an item that is read
-    taken : (what : Item Event) (next : ℕ) → itemStep voice s at ≡ met (record { place = at; what = what }) next → (at + 3 ≤ next) × (next ≤ length s)
-        → (left : Checked Items) × Left 11 (length s) (itemStep voice s) notAfterEndMark next (record { place = at; what = what } ∷ r .before) left
+    -- an item that is read, and passes
+    taken : (what : Item Event) (next : ℕ) → itemStep voice s at ≡ met (record { place = at; what = what }) next → (at < next) × (next ≤ length s)
+        → markIsLast (length s) (r .before) (record { place = at; what = what }) ≡ passed
+        → (left : Checked Items) × Left 11 (length s) (itemStep voice s) (markIsLast (length s)) next (record { place = at; what = what } ∷ r .before) left
         × (onto (count + 1) (lasts + durationOf what) left ≡ bodyAnswer (bodyOf voice s))
-    taken what next st a =
+    taken what next st a passes =
         let item : Placed (Item Event) = record { place = at; what = what } in
-        let n = left-next _ _ _ _ at (r .before) (r .left) (r .walk) item next here st (omega arith) (unmarked-passes (r .before) item (r .unmarked)) in
+        let n = left-next _ _ _ _ at (r .before) (r .left) (r .walk) item next here st a passes in
         (n .0, n .1, sym (onto-first count lasts item (n .0)) ∙ ap (onto count lasts) (sym (n .2)) ∙ r .same)
 
     pub body-reads : (duration next : ℕ) (event : Event) → i ≡ Timed duration event next → duration < 4294967296
         → Reading voice s next (count + 1) (lasts + duration)
-    unfolding itemMet afterEndMark isMark durationOf
+    unfolding itemMet durationOf isMark
     body-reads duration next event e small =
         let a = ahead (Timed duration event next) e in
-        let t = taken (timed duration event) next (stands (Timed duration event next) e) a in
+        let passes = unmarked-passes (length s) (r .before) (record { place = at; what = timed duration event }) refl in
+        let t = taken (timed duration event) next (stands (Timed duration event next) e) (omega arith) passes in
         record {
           before = record { place = at; what = timed duration event } ∷ r .before;
           left = t .0;
           walk = t .1;
           few = omega (arith, r .few);
           small = omega (arith, r .small);
-          unmarked = refl;
           same = t .2;
         }
 
     body-marked : (next : ℕ) → i ≡ EndMark next → next ≡ length s → body.Whole (count + 1) lasts ≡ bodyAnswer (bodyOf voice s)
     unfolding itemMet durationOf
     body-marked next e q =
-        let t = taken endMark next (stands (EndMark next) e) (ahead (EndMark next) e) in
+        let a = ahead (EndMark next) e in
+        let t = taken endMark next (stands (EndMark next) e) (omega arith) (last-passes (length s) (r .before) (record { place = at; what = endMark }) (omega arith)) in
         let before : Items = record { place = at; what = endMark } ∷ r .before in
         ap (λ (n : ℕ). body.Whole (count + 1) n) (sym (add-zero lasts))
         ∙ sym (onto-nil (count + 1) (lasts + 0))
         ∙ ap (onto (count + 1) (lasts + 0)) (sym (left-ends _ _ _ _ next before (t .0) (t .1) (omega arith)))
         ∙ t .2
 
-    -- whatever stands after an end mark is refused with 11 at its place
-    refused-after : (before : Items) (left : Checked Items) (next : ℕ) → Left 11 (length s) (itemStep voice s) notAfterEndMark next before left
-        → afterEndMark before ≡ true → next < length s → (j : ReadItem) → itemAt voice s next ≡ j → ItemAhead next (length s) j → left ≡ refused 11 next
-    unfolding itemStep itemMet
-    refused-after before left next l marked more (Timed duration event n) e a =
-        left-refused _ _ _ _ next before left l _ n 11 next more (ap (itemMet next) e) (marked-refuses before _ marked)
-    refused-after before left next l marked more (EndMark n) e a =
-        left-refused _ _ _ _ next before left l _ n 11 next more (ap (itemMet next) e) (marked-refuses before _ marked)
-    refused-after before left next l marked more (Refused number place) e a =
-        left-stuck _ _ _ _ next before left l number place more (ap (itemMet next) e) ∙ ap₂ refused (a .0) (a .1)
-
+    -- whatever stands after an end mark is refused with 11 at its first byte
     body-goes-on : (next : ℕ) → i ≡ EndMark next → (next ≡ length s → ⊥) → body.Refused 11 next ≡ bodyAnswer (bodyOf voice s)
-    unfolding itemMet onto afterEndMark isMark durationOf
+    unfolding itemMet onto isMark
     body-goes-on next e q =
         let a = ahead (EndMark next) e in
-        let t = taken endMark next (stands (EndMark next) e) a in
-        let before : Items = record { place = at; what = endMark } ∷ r .before in
-        ap (onto (count + 1) (lasts + 0))
-        (sym (refused-after before (t .0) next (t .1) refl (omega arith) (itemAt voice s next) refl (item-ahead voice s next)))
-        ∙ t .2
+        let four : next ≡ at + 4 = a .0 in
+        ap (body.Refused 11) four
+        ∙ ap (onto count lasts)
+        (sym (left-refused _ _ _ _ at (r .before) (r .left) (r .walk) _ next 11 (at + 4) here (stands (EndMark next) e)
+        (mark-refuses (length s) (r .before) (record { place = at; what = endMark }) refl (omega arith))))
+        ∙ r .same
 
     pub body-marks : (next : ℕ) (answer : ReadBody) → i ≡ EndMark next → answer ≡ endedAt (length s) next count lasts → answer ≡ bodyAnswer (bodyOf voice s)
     unfolding endedAt if_then_else_

@@ -49,12 +49,13 @@ module _ (s : List ℕ) (at : ℕ) (r : SettingUp s at) where
     unfolding setupStep
     stands j e = ap (messageMet at) (sym is ∙ e)
 
-    pub setup-refused : i ≡ event.Refused → check.Refused 10 at ≡ checkAnswer (setupOf s)
+    pub setup-refused : (number place : ℕ) → i ≡ event.Refused number place → check.Refused 10 at ≡ checkAnswer (setupOf s)
     unfolding messageMet checkAnswer
-    setup-refused e = ap checkAnswer (sym (left-stuck _ _ _ _ at (r .before) (r .left) (r .walk) 10 at here (stands event.Refused e))) ∙ r .same
+    setup-refused number place e =
+        ap checkAnswer (sym (left-stuck _ _ _ _ at (r .before) (r .left) (r .walk) 10 at here (stands (event.Refused number place) e))) ∙ r .same
 
     ahead : (next : ℕ) (message : Event) → i ≡ event.Is message next → (at + 2 ≤ next) × (next ≤ length s)
-    ahead next message e = subst (EventAhead at (length s)) (sym is ∙ e) (setup-message-ahead s at)
+    ahead next message e = subst (EventAhead at (length s)) (sym is ∙ e) (setup-message-ahead s at (omega arith))
 
     pub setup-nears : (next : ℕ) (message : Event) → i ≡ event.Is message next → length s - next < length s - at
     setup-nears next message e = let a = ahead next message e in omega arith

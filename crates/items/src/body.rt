@@ -81,13 +81,22 @@ fn read_setup_message(s: &[u8], at: usize) -> ReadEvent
     ensures { λ r. ⌜ r ≡ setupMessageAt (now (s .entry)) at ⌝ }
 {
     if s.len() - at < 2 {
-        return ReadEvent::Refused;
+        return ReadEvent::Refused {
+            number: 10,
+            place: at,
+        };
     }
     if s[at] != 0xFF {
-        return ReadEvent::Refused;
+        return ReadEvent::Refused {
+            number: 10,
+            place: at,
+        };
     }
     if s[at + 1] != 0xF0 {
-        return ReadEvent::Refused;
+        return ReadEvent::Refused {
+            number: 10,
+            place: at,
+        };
     }
     read_exclusive(s, at)
 }
@@ -107,7 +116,10 @@ pub fn read_setup(s: &[u8]) -> Check
             ReadEvent::Is { event: _, next } => {
                 at = next;
             }
-            ReadEvent::Refused => {
+            ReadEvent::Refused {
+                number: _,
+                place: _,
+            } => {
                 return Check::Refused {
                     number: 10,
                     place: at,

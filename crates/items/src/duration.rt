@@ -21,7 +21,10 @@ pub fn read_duration(s: &[u8], at: usize) -> ReadDuration
     ensures { λ r. ⌜ r ≡ durationAt (now (s .entry)) at ⌝ }
 {
     if s.len() <= at {
-        return ReadDuration::Refused;
+        return ReadDuration::Refused {
+            number: 20,
+            place: s.len(),
+        };
     }
     let one = s[at];
     let next = at + 1;
@@ -32,7 +35,10 @@ pub fn read_duration(s: &[u8], at: usize) -> ReadDuration
         };
     }
     if s.len() <= next {
-        return ReadDuration::Refused;
+        return ReadDuration::Refused {
+            number: 20,
+            place: s.len(),
+        };
     }
     let two = s[next];
     if two < 128 {
@@ -41,7 +47,10 @@ pub fn read_duration(s: &[u8], at: usize) -> ReadDuration
             next: at + 2,
         };
     }
-    ReadDuration::Refused
+    ReadDuration::Refused {
+        number: 23,
+        place: next,
+    }
 }
 
 pub fn read_gate(s: &[u8], at: usize) -> ReadDuration
@@ -50,10 +59,13 @@ pub fn read_gate(s: &[u8], at: usize) -> ReadDuration
     match read_duration(s, at) {
         ReadDuration::Is { value, next } => {
             if value == 0 {
-                return ReadDuration::Refused;
+                return ReadDuration::Refused {
+                    number: 21,
+                    place: at,
+                };
             }
             ReadDuration::Is { value, next }
         }
-        ReadDuration::Refused => ReadDuration::Refused,
+        ReadDuration::Refused { number, place } => ReadDuration::Refused { number, place },
     }
 }

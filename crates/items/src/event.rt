@@ -60,14 +60,17 @@ fn read_sound(voice: Voice, s: &[u8], at: usize) -> ReadEvent
 {
     let byte = s[at];
     if !is_sound(voice, byte) {
-        return ReadEvent::Refused;
+        return ReadEvent::Refused {
+            number: 21,
+            place: at,
+        };
     }
     match read_gate(s, at + 1) {
         ReadDuration::Is { value, next } => ReadEvent::Is {
             event: make_sound(voice, byte, value),
             next,
         },
-        ReadDuration::Refused => ReadEvent::Refused,
+        ReadDuration::Refused { number, place } => ReadEvent::Refused { number, place },
     }
 }
 
@@ -124,17 +127,29 @@ fn read_long(voice: Voice, s: &[u8], at: usize, channel: u8, kind: u8) -> ReadEv
     ensures { λ r. ⌜ r ≡ longAt voice (now (s .entry)) at channel kind ⌝ }
 {
     if kind == 0 {
-        return ReadEvent::Refused;
+        return ReadEvent::Refused {
+            number: 22,
+            place: at + 1,
+        };
     }
     if !has_kind(voice, kind) {
-        return ReadEvent::Refused;
+        return ReadEvent::Refused {
+            number: 22,
+            place: at + 1,
+        };
     }
     if s.len() <= at + 2 {
-        return ReadEvent::Refused;
+        return ReadEvent::Refused {
+            number: 20,
+            place: s.len(),
+        };
     }
     let value = s[at + 2];
     if !is_value(kind, value) {
-        return ReadEvent::Refused;
+        return ReadEvent::Refused {
+            number: 23,
+            place: at + 2,
+        };
     }
     ReadEvent::Is {
         event: Event::Control {
@@ -152,13 +167,22 @@ fn read_short(voice: Voice, at: usize, channel: u8, kind: u8, value: u8) -> Read
     ensures { λ r. ⌜ r ≡ shortAt voice at channel kind value ⌝ }
 {
     if !has_kind(voice, kind) {
-        return ReadEvent::Refused;
+        return ReadEvent::Refused {
+            number: 22,
+            place: at + 1,
+        };
     }
     if value == 0 {
-        return ReadEvent::Refused;
+        return ReadEvent::Refused {
+            number: 23,
+            place: at + 1,
+        };
     }
     if value == 15 {
-        return ReadEvent::Refused;
+        return ReadEvent::Refused {
+            number: 23,
+            place: at + 1,
+        };
     }
     ReadEvent::Is {
         event: Event::Control {
@@ -187,7 +211,10 @@ fn read_control(voice: Voice, s: &[u8], at: usize) -> ReadEvent
     ensures { λ r. ⌜ r ≡ controlAt voice (now (s .entry)) at ⌝ }
 {
     if s.len() <= at + 1 {
-        return ReadEvent::Refused;
+        return ReadEvent::Refused {
+            number: 20,
+            place: s.len(),
+        };
     }
     read_formed(voice, s, at, s[at + 1])
 }
@@ -198,14 +225,23 @@ fn read_closed(s: &[u8], at: usize, size: u8) -> ReadEvent
     ensures { λ r. ⌜ r ≡ closedAt (now (s .entry)) at size ⌝ }
 {
     if size < 3 {
-        return ReadEvent::Refused;
+        return ReadEvent::Refused {
+            number: 23,
+            place: at + 2,
+        };
     }
     let last = at + 2 + size as usize;
     if s.len() <= last {
-        return ReadEvent::Refused;
+        return ReadEvent::Refused {
+            number: 20,
+            place: s.len(),
+        };
     }
     if s[last] != 0xF7 {
-        return ReadEvent::Refused;
+        return ReadEvent::Refused {
+            number: 23,
+            place: last,
+        };
     }
     ReadEvent::Is {
         event: Event::Exclusive { place: at, size },
@@ -219,7 +255,10 @@ pub fn read_exclusive(s: &[u8], at: usize) -> ReadEvent
     ensures { λ r. ⌜ r ≡ exclusiveAt (now (s .entry)) at ⌝ }
 {
     if s.len() <= at + 2 {
-        return ReadEvent::Refused;
+        return ReadEvent::Refused {
+            number: 20,
+            place: s.len(),
+        };
     }
     read_closed(s, at, s[at + 2])
 }
@@ -230,7 +269,10 @@ fn read_system(s: &[u8], at: usize) -> ReadEvent
     ensures { λ r. ⌜ r ≡ systemAt (now (s .entry)) at ⌝ }
 {
     if s.len() <= at + 1 {
-        return ReadEvent::Refused;
+        return ReadEvent::Refused {
+            number: 20,
+            place: s.len(),
+        };
     }
     let byte = s[at + 1];
     if byte == 0x00 {
@@ -242,14 +284,20 @@ fn read_system(s: &[u8], at: usize) -> ReadEvent
     if byte == 0xF0 {
         return read_exclusive(s, at);
     }
-    ReadEvent::Refused
+    ReadEvent::Refused {
+        number: 22,
+        place: at + 1,
+    }
 }
 
 pub fn read_event(voice: Voice, s: &[u8], at: usize) -> ReadEvent
     ensures { λ r. ⌜ r ≡ eventAt voice (now (s .entry)) at ⌝ }
 {
     if s.len() <= at {
-        return ReadEvent::Refused;
+        return ReadEvent::Refused {
+            number: 20,
+            place: s.len(),
+        };
     }
     let byte = s[at];
     if byte == 0x00 {

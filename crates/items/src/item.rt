@@ -42,14 +42,8 @@ pub fn read_item(voice: Voice, s: &[u8], at: usize) -> ReadItem
                 event,
                 next: after,
             },
-            ReadEvent::Refused => ReadItem::Refused {
-                number: 11,
-                place: at,
-            },
+            ReadEvent::Refused { number, place } => ReadItem::Refused { number, place },
         },
-        ReadDuration::Refused => ReadItem::Refused {
-            number: 11,
-            place: at,
-        },
+        ReadDuration::Refused { number, place } => ReadItem::Refused { number, place },
     }
 }

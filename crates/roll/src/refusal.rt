@@ -3,7 +3,36 @@ use text::flush;
 use text::put;
 use text::put_decimal;
 
+// What is wrong with an item of a sequence, 20 to 23.
+fn put_fault(page: &mut [u8], used: usize, number: u32) -> usize {
+    if number == 20 {
+        return put(
+            page,
+            used,
+            b"a sequence ends here, and its last item needs more bytes",
+        );
+    }
+    if number == 21 {
+        return put(
+            page,
+            used,
+            b"a forbidden note or wave number, or a gate time of 0",
+        );
+    }
+    if number == 22 {
+        return put(page, used, b"a reserved event or control");
+    }
+    put(
+        page,
+        used,
+        b"a reserved value, or a bad byte of a time or an exclusive",
+    )
+}
+
 fn put_reason(page: &mut [u8], used: usize, number: u32) -> usize {
+    if number >= 20 {
+        return put_fault(page, used, number);
+    }
     if number <= 3 {
         return put(page, used, b"this is no whole SMAF file");
     }
@@ -21,7 +50,11 @@ fn put_reason(page: &mut [u8], used: usize, number: u32) -> usize {
         return put(page, used, b"a setup is damaged");
     }
     if number == 11 {
-        return put(page, used, b"a sequence is damaged");
+        return put(
+            page,
+            used,
+            b"a sequence is empty, or goes on after its end mark",
+        );
     }
     if number <= 14 {
         return put(page, used, b"points, phrases or the order list are damaged");

@@ -24,11 +24,11 @@ use Rattle.model.proofs.Codes.{kind-from, kind-to}
 
 abbrev pub DurationShort : ReadDuration → Type 0
 DurationShort (duration.Is value next) = value ≤ 16511
-DurationShort duration.Refused = Unit
+DurationShort (duration.Refused number place) = Unit
 
 abbrev EventInWord : ReadEvent → Type 0
 EventInWord (event.Is what next) = InWord what
-EventInWord event.Refused = Unit
+EventInWord (event.Refused number place) = Unit
 
 abbrev pub ItemInWord : ReadItem → Type 0
 ItemInWord (Timed duration what next) = (duration ≤ 16511) × InWord what
@@ -45,23 +45,23 @@ module _ (s : List ℕ) (bytes : (k : ℕ) → s ! k < 256) where
       (λ i. if-all DurationShort (length s ≤? at + 1) _ _ (λ j. tt)
       (λ j. if-all DurationShort (s ! (at + 1) <? 128) _ _ (λ k. omega (arith, ltb-true)) (λ k. tt))))
 
-  pub gate-short : (d : ReadDuration) → DurationShort d → DurationShort (notZero d)
+  pub gate-short : (at : ℕ) (d : ReadDuration) → DurationShort d → DurationShort (notZero at d)
   unfolding notZero
-  gate-short (duration.Is value next) h = if-all DurationShort (value ≡? 0) _ _ (λ i. tt) (λ i. h)
-  gate-short duration.Refused h = tt
+  gate-short at (duration.Is value next) h = if-all DurationShort (value ≡? 0) _ _ (λ i. tt) (λ i. h)
+  gate-short at (duration.Refused number place) h = tt
 
   gated-in-word : (voice : Voice) (byte : ℕ) (d : ReadDuration) → byte < 256 → DurationShort d → EventInWord (gated voice byte d)
   unfolding gated sound
   gated-in-word Score byte (duration.Is value next) h k = omega arith
   gated-in-word Pcm byte (duration.Is value next) h k = omega arith
-  gated-in-word voice byte duration.Refused h k = tt
+  gated-in-word voice byte (duration.Refused number place) h k = tt
 
   module _ (voice : Voice) (at : ℕ) where
     sound-in-word : EventInWord (soundAt voice s at)
     unfolding soundAt gateAt
     sound-in-word =
         if-all EventInWord (isSound voice (s ! at)) _ _
-        (λ h. gated-in-word voice (s ! at) _ (bytes at) (gate-short (durationAt s (at + 1)) (duration-short (at + 1))))
+        (λ h. gated-in-word voice (s ! at) _ (bytes at) (gate-short (at + 1) (durationAt s (at + 1)) (duration-short (at + 1))))
         (λ h. tt)
 
     long-in-word : (byte : ℕ) → byte < 256 → EventInWord (longAt voice s at (byte / 64) (longKind (byte % 16)))
@@ -114,17 +114,17 @@ module _ (s : List ℕ) (bytes : (k : ℕ) → s ! k < 256) where
         (λ h. if-all EventInWord (s ! at ≡? 0x00) _ _ (λ i. control-in-word voice at)
         (λ i. if-all EventInWord (s ! at ≡? 0xFF) _ _ (λ j. system-in-word at) (λ j. sound-in-word voice at)))
 
-    with-event : (at value : ℕ) (e : ReadEvent) → value ≤ 16511 → EventInWord e → ItemInWord (withEvent at value e)
+    with-event : (value : ℕ) (e : ReadEvent) → value ≤ 16511 → EventInWord e → ItemInWord (withEvent value e)
     unfolding withEvent
-    with-event at value (event.Is what next) h k = (h, k)
-    with-event at value event.Refused h k = tt
+    with-event value (event.Is what next) h k = (h, k)
+    with-event value (event.Refused number place) h k = tt
 
-    with-duration : (voice : Voice) (at : ℕ) (d : ReadDuration) → DurationShort d → ItemInWord (withDuration voice s at d)
+    with-duration : (voice : Voice) (d : ReadDuration) → DurationShort d → ItemInWord (withDuration voice s d)
     unfolding withDuration
-    with-duration voice at (duration.Is value next) h = with-event at value (eventAt voice s next) h (event-in-word voice next)
-    with-duration voice at duration.Refused h = tt
+    with-duration voice (duration.Is value next) h = with-event value (eventAt voice s next) h (event-in-word voice next)
+    with-duration voice (duration.Refused number place) h = tt
 
     pub item-in-word : (voice : Voice) (at : ℕ) → ItemInWord (itemAt voice s at)
     unfolding itemAt
     item-in-word voice at =
-        if-all ItemInWord (isEndMark s at) _ _ (λ h. tt) (λ h. with-duration voice at (durationAt s at) (duration-short at))
+        if-all ItemInWord (isEndMark s at) _ _ (λ h. tt) (λ h. with-duration voice (durationAt s at) (duration-short at))

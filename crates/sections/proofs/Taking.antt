@@ -57,7 +57,7 @@ module _ (s : List ℕ) (bytes : AllBytes s) (at : ℕ) (d : ReadDuration) (is :
   pub gate-fits : value < 32768
   unfolding gateAt
   gate-fits =
-      let short = subst DurationShort (sym is ∙ e) (gate-short s bytes (durationAt s at) (duration-short s bytes at)) in
+      let short = subst DurationShort (sym is ∙ e) (gate-short s bytes at (durationAt s at) (duration-short s bytes at)) in
       omega arith
 
 module _ (voice : Voice) (s : List ℕ) (at length : ℕ) (d : ReadDuration) (is : d ≡ gateAt s (at + 1)) (r : Taken) where
@@ -73,9 +73,9 @@ module _ (voice : Voice) (s : List ℕ) (at length : ℕ) (d : ReadDuration) (is
   unfolding gated EventAgrees
   sound-taken value next word e w h = agrees-where (rw e (h ∙ ap (takenAs next length) w))
 
-  pub sound-refused : d ≡ duration.Refused → EventAgrees length r (soundAt voice s at)
+  pub sound-refused : (number place : ℕ) → d ≡ duration.Refused number place → EventAgrees length r (soundAt voice s at)
   unfolding gated EventAgrees
-  sound-refused e = agrees-where (rw e tt)
+  sound-refused number place e = agrees-where (rw e tt)
 
 -- AN ITEM THAT IS READ
 
@@ -99,14 +99,14 @@ module _ (voice : Voice) (s : List ℕ) (at : ℕ) (i : ReadItem) (is : i ≡ it
 
 -- AFTER A DURATION OF ONE BYTE
 
-with-agrees : (at length : ℕ) (r : Taken) (e : ReadEvent) → EventAgrees length r e → ItemAgrees r (withEvent at length e)
+with-agrees : (length : ℕ) (r : Taken) (e : ReadEvent) → EventAgrees length r e → ItemAgrees r (withEvent length e)
 unfolding withEvent EventAgrees ItemAgrees
-with-agrees at length r (event.Is what next) h = h
-with-agrees at length r event.Refused h = tt
+with-agrees length r (event.Is what next) h = h
+with-agrees length r (event.Refused number place) h = tt
 
 module _ (voice : Voice) (s : List ℕ) (at : ℕ) (there : at + 1 < length s) (one : s ! at < 128) (control : s ! (at + 1) ≡ 0x00 → ⊥)
     (system : s ! (at + 1) ≡ 0xFF → ⊥) where
   pub item-sounds : (r : Taken) → EventAgrees (s ! at) r (soundAt voice s (at + 1)) → ItemAgrees r (itemAt voice s at)
-  item-sounds r h = subst (ItemAgrees r) (sym (sounds-here voice s at there one control system)) (with-agrees at (s ! at) r (soundAt voice s (at + 1)) h)
+  item-sounds r h = subst (ItemAgrees r) (sym (sounds-here voice s at there one control system)) (with-agrees (s ! at) r (soundAt voice s (at + 1)) h)
 
 pub ruleset taking = (score-word, pcm-word, gate-fits, sound-taken, sound-refused, read-in-word, read-timed, read-mark, read-refused, item-sounds)

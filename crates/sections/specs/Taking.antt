@@ -20,7 +20,7 @@ takenAs next duration word = record { next = next; duration = duration; word = w
 
 unfoldable pub EventAgrees : ℕ → Taken → ReadEvent → Type 0
 EventAgrees duration taken (event.Is what next) = taken ≡ takenAs next duration (wordOf what)
-EventAgrees duration taken event.Refused = Unit
+EventAgrees duration taken (event.Refused number place) = Unit
 
 unfoldable pub ItemAgrees : Taken → ReadItem → Type 0
 ItemAgrees taken (Timed duration what next) = taken ≡ takenAs next duration (wordOf what)

@@ -50,7 +50,10 @@ fn take_sound(voice: Voice, s: &[u8], at: usize, duration: u8) -> Taken
             duration as u32,
             sound_word(voice, byte, value),
         ),
-        ReadDuration::Refused => taken(0, 0, 0),
+        ReadDuration::Refused {
+            number: _,
+            place: _,
+        } => taken(0, 0, 0),
     }
 }
 

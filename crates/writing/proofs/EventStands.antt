@@ -30,19 +30,19 @@ use Rattle.writing.proofs.Stands.{Stands, part-stands}
 
 abbrev pub DurationStands : List ℕ → ℕ → ReadDuration → Type 0
 DurationStands s at (duration.Is value next) = (value ≤ 16511) × Stands s at (durationBytes value) × (next ≡ at + length (durationBytes value))
-DurationStands s at duration.Refused = Unit
+DurationStands s at (duration.Refused number place) = Unit
 
 abbrev GateStands : List ℕ → ℕ → ReadDuration → Type 0
 GateStands s at (duration.Is gate next) =
     (1 ≤ gate) × (gate ≤ 16511) × Stands s at (durationBytes gate) × (next ≡ at + length (durationBytes gate))
-GateStands s at duration.Refused = Unit
+GateStands s at (duration.Refused number place) = Unit
 
 abbrev pub EventStands : Voice → List ℕ → ℕ → ReadEvent → Type 0
 EventStands voice s at (event.Is what next) =
     (contentFits voice (contentOf s what) ≡ true)
     × Stands s at (contentBytes (contentOf s what))
     × (next ≡ at + length (contentBytes (contentOf s what)))
-EventStands voice s at event.Refused = Unit
+EventStands voice s at (event.Refused number place) = Unit
 
 module _ (s : List ℕ) (bytes : (k : ℕ) → s ! k < 256) where
   short-stands : (at : ℕ) → at < length s → s ! at < 128 → DurationStands s at (duration.Is (s ! at) (at + 1))
@@ -65,11 +65,11 @@ module _ (s : List ℕ) (bytes : (k : ℕ) → s ! k < 256) where
       (λ d. long-stands at (leb-false (length s) (at + 1) c) (ltb-false (s ! at) 128 b) (ltb-true (s ! (at + 1)) 128 d))
       (λ d. tt))))
 
-  not-zero-stands : (at : ℕ) (d : ReadDuration) → DurationStands s at d → GateStands s at (notZero d)
+  not-zero-stands : (at : ℕ) (d : ReadDuration) → DurationStands s at d → GateStands s at (notZero at d)
   unfolding notZero
   not-zero-stands at (duration.Is value next) st =
       if-all (GateStands s at) (value ≡? 0) _ _ (λ z. tt) (λ z. let n = eqb-false value 0 z in (omega arith, st .0, st .1, st .2))
-  not-zero-stands at duration.Refused st = tt
+  not-zero-stands at (duration.Refused number place) st = tt
 
   gate-stands : (at : ℕ) → GateStands s at (gateAt s at)
   unfolding gateAt
@@ -88,7 +88,7 @@ module _ (s : List ℕ) (bytes : (k : ℕ) → s ! k < 256) where
         let k : s ! at % 64 ≤ 63 = omega arith in
         let l : s ! at % 64 % 16 ≡ s ! at % 16 = omega arith in
         (simp (le-leb, l, n), (here, omega arith, st .2), omega arith)
-    note-stands n duration.Refused st = tt
+    note-stands n (duration.Refused number place) st = tt
 
     wave-stands : isWave (s ! at % 64) ≡ true → (d : ReadDuration) → GateStands s (at + 1) d → EventStands Pcm s at (gated Pcm (s ! at) d)
     unfolding gated sound contentOf contentFits contentBytes waveFits isGate _and_
@@ -99,7 +99,7 @@ module _ (s : List ℕ) (bytes : (k : ℕ) → s ! k < 256) where
         let m = st .3 in
         let c : s ! at / 64 ≤ 3 = omega arith in
         (simp (le-leb, w), (here, omega arith, st .2), omega arith)
-    wave-stands w duration.Refused st = tt
+    wave-stands w (duration.Refused number place) st = tt
 
     sound-stands : (voice : Voice) → EventStands voice s at (soundAt voice s at)
     unfolding soundAt isSound

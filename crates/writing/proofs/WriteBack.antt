@@ -60,7 +60,7 @@ stands-written voice s at what next fits some st ends =
 
 module _ (voice : Voice) (s : List ℕ) (bytes : (k : ℕ) → s ! k < 256) (at : ℕ) where
   with-event-written : (value next : ℕ) → value ≤ 16511 → Stands s at (durationBytes value) → next ≡ at + length (durationBytes value)
-      → (e : ReadEvent) → EventStands voice s next e → ItemWritten voice s at (withEvent at value e)
+      → (e : ReadEvent) → EventStands voice s next e → ItemWritten voice s at (withEvent value e)
   unfolding withEvent itemFits itemBytes
   with-event-written value next h st p (event.Is what after) su =
       let content = contentBytes (contentOf s what) in
@@ -70,13 +70,13 @@ module _ (voice : Voice) (s : List ℕ) (bytes : (k : ℕ) → s ! k < 256) (at 
       stands-written voice s at (timed value (contentOf s what)) after (both-true (value ≤? 16511) _ (le-leb value 16511 h) (su .0)) (omega arith)
       (stands-both s at (durationBytes value) content st (subst (λ (k : ℕ). Stands s k content) p (su .1)))
       (omega arith)
-  with-event-written value next h st p event.Refused su = tt
+  with-event-written value next h st p (event.Refused number place) su = tt
 
-  with-duration-written : (d : ReadDuration) → DurationStands s at d → ItemWritten voice s at (withDuration voice s at d)
+  with-duration-written : (d : ReadDuration) → DurationStands s at d → ItemWritten voice s at (withDuration voice s d)
   unfolding withDuration
   with-duration-written (duration.Is value next) st =
       with-event-written value next (st .0) (st .1) (st .2) (eventAt voice s next) (event-stands s bytes voice next)
-  with-duration-written duration.Refused st = tt
+  with-duration-written (duration.Refused number place) st = tt
 
   mark-written : isEndMark s at ≡ true → Written voice s at endMark (at + 4)
   unfolding isEndMark itemFits itemBytes

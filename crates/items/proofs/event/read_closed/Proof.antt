@@ -25,6 +25,7 @@ pub read-closed-spec : {M : Type 1} → statement M
 read-closed-spec =
     tie.close
     (tie.spec
+    (λ c. search needs)
     returns
     (λ c. search needs)
     (λ c. search needs)

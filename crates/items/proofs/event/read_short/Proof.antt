@@ -24,4 +24,14 @@ returns-4 c = search (tests, junctions) depth 9 fits 20000
 
 pub read-short-spec : {M : Type 1} → statement M
 read-short-spec =
-    tie.close (tie.spec (λ c κs. search needs) returns returns-2 returns-3 (λ c. search needs) returns-4)
+    tie.close
+    (tie.spec
+    (λ c κs. search needs)
+    (λ c. search needs)
+    returns
+    (λ c. search needs)
+    returns-2
+    (λ c. search needs)
+    returns-3
+    (λ c. search needs)
+    returns-4)

@@ -33,4 +33,5 @@ read-system-spec =
     returns-2
     (λ c κs. search needs)
     returns-3
+    (λ c. search needs)
     returns-4)

@@ -9,8 +9,8 @@ use borrow.Author.Needs.{needs}
 use Rattle.items.proofs.item.read_item.Statement.{statement}
 use Rattle.items.proofs.item.read_item.Tie as tie
 
-add-t9 : tie.Need-add-t9
-add-t9 c = omega (arith, end-mark-within _ _ (sym (c .before .is-end-mark .ensures) ∙ c .if1 .taken))
+add-t13 : tie.Need-add-t13
+add-t13 c = omega (arith, end-mark-within _ _ (sym (c .before .is-end-mark .ensures) ∙ c .if1 .taken))
 
 returns : tie.Need-returns
 unfolding itemAt
@@ -33,7 +33,7 @@ read-item-spec =
     tie.close
     (tie.spec
     (λ c κs. search needs)
-    add-t9
+    add-t13
     returns
     (λ c κs. search needs)
     (λ c. search needs)
