@@ -5,3 +5,4 @@ pub mod Durations
 pub mod Controls
 pub mod Systems
 pub mod Events
+pub mod Items
