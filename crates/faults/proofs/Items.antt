@@ -88,3 +88,83 @@ module _ (voice : Voice) (s : List ℕ) (at : ℕ) where
               reads = λ t c. nop-follows t place (m .rest) c (durationAt t at) (m .reads t (continued-first s place (m .rest) _ t c));
             };
           }
+
+-- THREE ZEROS, and an end mark
+
+has-short-expression : (voice : Voice) → hasKind voice 13 ≡ true
+unfolding hasKind _and_
+has-short-expression Score = refl
+has-short-expression Pcm = refl
+
+pub zeros-refused : (voice : Voice) (s : List ℕ) (at : ℕ) → at + 2 < length s → s ! at ≡ 0 → s ! (at + 1) ≡ 0 → s ! (at + 2) ≡ 0
+    → timedAt voice s at ≡ Refused 23 (at + 2)
+unfolding durationAt withDuration eventAt controlAt formed shortAt withEvent if_then_else_
+zeros-refused voice s at room first second third =
+    let here : at < length s = omega arith in
+    let more : at + 1 < length s = omega arith in
+    let after : at + 1 + 1 ≡ at + 2 = omega arith in
+    simp (lt-leb, first, second, after, third, has-short-expression)
+
+pub record IsMark (s : List ℕ) (at : ℕ) : Type 0 where
+  pub room : at + 4 ≤ length s
+  pub first : s ! at ≡ 0
+  pub second : s ! (at + 1) ≡ 0
+  pub third : s ! (at + 2) ≡ 0
+
+mark-zeros : (s : List ℕ) (at : ℕ) → isEndMark s at ≡ true → IsMark s at
+unfolding isEndMark
+mark-zeros s at h =
+    let past-room = and-right _ _ h in
+    let past-first = and-right _ _ past-room in
+    let past-second = and-right _ _ past-first in
+    record {
+      room = leb-true _ _ (and-left _ _ h);
+      first = eqb-true _ _ (and-left _ _ past-room);
+      second = eqb-true _ _ (and-left _ _ past-first);
+      third = eqb-true _ _ (and-left _ _ past-second);
+    }
+
+-- WHAT STANDS AT A PLACE, an end mark or not
+
+module _ (voice : Voice) (s : List ℕ) (at : ℕ) where
+  marked : isEndMark s at ≡ true → itemAt voice s at ≡ EndMark (at + 4)
+  unfolding itemAt
+  marked h = if-true _ _ _ h
+
+  unmarked : isEndMark s at ≡ false → itemAt voice s at ≡ timedAt voice s at
+  unfolding itemAt
+  unmarked h = if-false _ _ _ h
+
+  -- what is no end mark, and what cannot be three zeros
+
+  no-mark : (r : ReadItem) → itemAt voice s at ≡ r → (EndMark (at + 4) ≡ r → ⊥) → timedAt voice s at ≡ r
+  no-mark r e other = by-test (isEndMark s at) (λ h. absurd (other (sym (marked h) ∙ e))) (λ h. sym (unmarked h) ∙ e)
+
+  no-zeros : (timedAt voice s at ≡ Refused 23 (at + 2) → ⊥) → itemAt voice s at ≡ timedAt voice s at
+  no-zeros other =
+      by-test (isEndMark s at)
+      (λ h.
+      let m = mark-zeros s at h in
+      absurd (other (zeros-refused voice s at (omega (arith, m .room)) (m .first) (m .second) (m .third))))
+      unmarked
+
+  pub ends-read : (next : ℕ) → itemSeen (timedAt voice s at) ≡ ends next → itemSeen (itemAt voice s at) ≡ ends next
+  ends-read next e = ap itemSeen (no-zeros (λ z. let q : fails 23 (at + 2) ≡ ends next = sym (ap itemSeen z) ∙ e in let w : _≡_ {A = ℕ} 0 1 = cc in omega arith)) ∙ e
+
+  pub refused-or-mark : (number place : ℕ) → timedAt voice s at ≡ Refused number place → (itemAt voice s at ≡ Refused number place) ⊎ IsMark s at
+  refused-or-mark number place e = by-test (isEndMark s at) (λ h. inr (mark-zeros s at h)) (λ h. inl (unmarked h ∙ e))
+
+-- An item that is read is read no differently where other bytes follow, and a refused one is refused exactly.
+module _ (voice : Voice) (s : List ℕ) (at : ℕ) (here : at < length s) where
+  read-exact : (r : ReadItem) → itemAt voice s at ≡ r → (EndMark (at + 4) ≡ r → ⊥) → Exact itemSeen s (λ t. timedAt voice t at) at r
+  read-exact r e other = subst (Exact itemSeen s (λ t. timedAt voice t at) at) (no-mark voice s at r e other) (timed-exact voice s at here)
+
+  pub timed-stays : (duration next : ℕ) (event : Event) → itemAt voice s at ≡ Timed duration event next → (t : List ℕ) → Agree next s t
+      → itemAt voice t at ≡ Timed duration event next
+  timed-stays duration next event e t a =
+      let same = read-exact (Timed duration event next) e (λ q. let w : _≡_ {A = ℕ} 0 1 = cc in omega arith) .1 t a in
+      no-zeros voice t at (λ z. let w : _≡_ {A = ℕ} 0 1 = cc in omega arith) ∙ same
+
+  pub refused-exact : (number place : ℕ) → itemAt voice s at ≡ Refused number place
+      → Fault itemSeen s (λ t. timedAt voice t at) at (Refused number place) number place
+  refused-exact number place e = read-exact (Refused number place) e (λ q. let w : _≡_ {A = ℕ} 0 1 = cc in omega arith)

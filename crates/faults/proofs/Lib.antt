@@ -6,3 +6,4 @@ pub mod Controls
 pub mod Systems
 pub mod Events
 pub mod Items
+pub mod Reached
