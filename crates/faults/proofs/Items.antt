@@ -7,7 +7,7 @@ use mathlib.Core.Path.{_≡_, refl, sym, _∙_, ap, subst}
 use lib.ListN.{length, length-append}
 use lib.Seq.{getD-append-add}
 use native.Mathlib.Omega.{arith}
-use borrow.Author.Tests.{lt-leb, leb-true, eqb-true}
+use borrow.Author.Tests.{le-leb, lt-leb, leb-true, eqb-true}
 use Rattle.model.specs.Words.{if_then_else_, _and_, _≤?_, _≡?_}
 use Rattle.model.specs.Bytes.{_!_}
 use Rattle.model.specs.Duration.{durationAt}
@@ -105,24 +105,31 @@ zeros-refused voice s at room first second third =
     let after : at + 1 + 1 ≡ at + 2 = omega arith in
     simp (lt-leb, first, second, after, third, has-short-expression)
 
-pub record IsMark (s : List ℕ) (at : ℕ) : Type 0 where
+pub record Zeros (s : List ℕ) (at : ℕ) : Type 0 where
   pub room : at + 4 ≤ length s
   pub first : s ! at ≡ 0
   pub second : s ! (at + 1) ≡ 0
   pub third : s ! (at + 2) ≡ 0
+  pub fourth : s ! (at + 3) ≡ 0
 
-mark-zeros : (s : List ℕ) (at : ℕ) → isEndMark s at ≡ true → IsMark s at
-unfolding isEndMark
-mark-zeros s at h =
-    let past-room = and-right _ _ h in
-    let past-first = and-right _ _ past-room in
-    let past-second = and-right _ _ past-first in
-    record {
-      room = leb-true _ _ (and-left _ _ h);
-      first = eqb-true _ _ (and-left _ _ past-room);
-      second = eqb-true _ _ (and-left _ _ past-first);
-      third = eqb-true _ _ (and-left _ _ past-second);
-    }
+module _ (s : List ℕ) (at : ℕ) where
+  mark-zeros : isEndMark s at ≡ true → Zeros s at
+  unfolding isEndMark
+  mark-zeros h =
+      let past-room = and-right _ _ h in
+      let past-first = and-right _ _ past-room in
+      let past-second = and-right _ _ past-first in
+      record {
+        room = leb-true _ _ (and-left _ _ h);
+        first = eqb-true _ _ (and-left _ _ past-room);
+        second = eqb-true _ _ (and-left _ _ past-first);
+        third = eqb-true _ _ (and-left _ _ past-second);
+        fourth = eqb-true _ _ (and-right _ _ past-second);
+      }
+
+  zeros-mark : Zeros s at → isEndMark s at ≡ true
+  unfolding isEndMark _and_
+  zeros-mark z = simp (le-leb (at + 4) (length s) (z .room), z .first, z .second, z .third, z .fourth)
 
 -- WHAT STANDS AT A PLACE, an end mark or not
 
@@ -144,15 +151,18 @@ module _ (voice : Voice) (s : List ℕ) (at : ℕ) where
   no-zeros other =
       by-test (isEndMark s at)
       (λ h.
-      let m = mark-zeros s at h in
-      absurd (other (zeros-refused voice s at (omega (arith, m .room)) (m .first) (m .second) (m .third))))
+      let z = mark-zeros s at h in
+      absurd (other (zeros-refused voice s at (omega (arith, z .room)) (z .first) (z .second) (z .third))))
       unmarked
 
   pub ends-read : (next : ℕ) → itemSeen (timedAt voice s at) ≡ ends next → itemSeen (itemAt voice s at) ≡ ends next
   ends-read next e = ap itemSeen (no-zeros (λ z. let q : fails 23 (at + 2) ≡ ends next = sym (ap itemSeen z) ∙ e in let w : _≡_ {A = ℕ} 0 1 = cc in omega arith)) ∙ e
 
-  pub refused-or-mark : (number place : ℕ) → timedAt voice s at ≡ Refused number place → (itemAt voice s at ≡ Refused number place) ⊎ IsMark s at
-  refused-or-mark number place e = by-test (isEndMark s at) (λ h. inr (mark-zeros s at h)) (λ h. inl (unmarked h ∙ e))
+  pub zeros-read : Zeros s at → itemAt voice s at ≡ EndMark (at + 4)
+  zeros-read z = marked (zeros-mark s at z)
+
+  pub refused-or-zeros : (number place : ℕ) → timedAt voice s at ≡ Refused number place → (itemAt voice s at ≡ Refused number place) ⊎ Zeros s at
+  refused-or-zeros number place e = by-test (isEndMark s at) (λ h. inr (mark-zeros s at h)) (λ h. inl (unmarked h ∙ e))
 
 -- An item that is read is read no differently where other bytes follow, and a refused one is refused exactly.
 module _ (voice : Voice) (s : List ℕ) (at : ℕ) (here : at < length s) where

@@ -7,3 +7,4 @@ pub mod Systems
 pub mod Events
 pub mod Items
 pub mod Reached
+pub mod ExactByte
