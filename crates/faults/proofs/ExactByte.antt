@@ -66,3 +66,54 @@ module _ (voice : Voice) (s : List ℕ) where
           bytes = each-byte (m .rest) (m .bytes);
           accepted = ended-fine voice t (f .at) (reached-in place t past (c .front)) (ends-read voice t (f .at) (length t) (m .reads t c ∙ ap ends long));
         }
+
+    module _ (w : Wrong itemSeen s (λ t. timedAt voice t (f .at)) (Refused number place) number place) where
+      -- what an end mark there, in a body with the same bytes up to that place, says of them
+      zeros-at : (t : List ℕ) → Agree (place + 1) s t → Zeros t (f .at)
+          → (number ≡ 23) × (place ≡ f .at + 2) × (s ! (f .at) ≡ 0) × (s ! (f .at + 1) ≡ 0) × (s ! place ≡ 0)
+      zeros-at t a z =
+          let told : Refused 23 (f .at + 2) ≡ Refused number place =
+          sym (zeros-refused voice t (f .at) (omega (arith, z .room)) (z .first) (z .second) (z .third)) ∙ w .stays t a in
+          let last : place ≡ f .at + 2 = cc in (
+            cc,
+            last,
+            sym (a .same (f .at) (omega arith)) ∙ z .first,
+            sym (a .same (f .at + 1) (omega arith)) ∙ z .second,
+            sym (a .same place (omega arith)) ∙ ap (λ (k : ℕ). t ! k) last ∙ z .third,
+          )
+
+      -- one more zero
+      zero-after : List ℕ
+      zero-after = take (place + 1) s ++ (0x00 ∷ [])
+
+      zero-continues : Continued s (place + 1) (0x00 ∷ []) zero-after
+      unfolding zero-after
+      zero-continues = continues s (place + 1) (omega (arith, w .within)) (0x00 ∷ [])
+
+      zero-length : length zero-after ≡ place + 2
+      unfolding zero-after
+      zero-length = omega (arith, length-append (take (place + 1) s) (0x00 ∷ []), length-take-le (place + 1) s (omega (arith, w .within)))
+
+      zero-refused : itemAt voice zero-after (f .at) ≡ Refused number place → Beginning voice (take (place + 1) s) → ⊥
+      zero-refused e b =
+          let t = take (place + 1) s ++ b .rest in
+          let a : Agree (place + 1) s t = agrees s (place + 1) (omega (arith, w .within)) (b .rest) in
+          go t a (b .accepted) (refused-or-zeros voice t (f .at) number place (w .stays t a))
+        where
+          go : (t : List ℕ) → Agree (place + 1) s t → isFine (bodyOf voice t) ≡ true → (itemAt voice t (f .at) ≡ Refused number place) ⊎ Zeros t (f .at) → ⊥
+          go t a reads (inl q) = refused-not-fine voice t (f .at) (reached-in (place + 1) t (omega (arith, past)) a) (omega (arith, a .room, past)) number place q reads
+          go t a reads (inr z) =
+              let is = zeros-at t a z in
+              let c = zero-continues in
+              let n = zero-length in
+              let mark : itemAt voice zero-after (f .at) ≡ EndMark (f .at + 4) =
+              zeros-read voice zero-after (f .at)
+              (record {
+                room = omega arith;
+                first = c .front .same (f .at) (omega arith) ∙ is .2;
+                second = c .front .same (f .at + 1) (omega arith) ∙ is .3;
+                third = c .front .same (f .at + 2) (omega arith) ∙ ap (λ (k : ℕ). s ! k) (sym (is .1)) ∙ is .4;
+                fourth = c .then-byte (f .at + 3) 0 (omega arith) (omega arith);
+              }) in
+              let v : _≡_ {A = ℕ} 0 1 = cc in
+              omega arith
