@@ -4,7 +4,7 @@
 use Prim.Native.Nat.{ℕ, _+_, _<_, _≤_}
 use mathlib.Core.Bool.{true}
 use mathlib.Core.List.{List, [], _∷_, _++_, append-nil}
-use mathlib.Core.Logic.{_⊎_, inl, inr}
+use mathlib.Core.Logic.{_⊎_, inl, inr, ⊎-elim, ⊎-map}
 use mathlib.Core.Path.{_≡_, refl, sym, _∙_, ap, subst}
 use lib.ListN.{length, take, length-append}
 use lib.Seq.{length-take-le, take-all}
@@ -117,3 +117,66 @@ module _ (voice : Voice) (s : List ℕ) where
               }) in
               let v : _≡_ {A = ℕ} 0 1 = cc in
               omega arith
+
+      module _ (z : Zeros zero-after (f .at)) where
+        start-accepted : ((f .at ≡? 0) or isFine (bodyOf voice (take (f .at) s))) ≡ true
+        start-accepted =
+            let front = take (f .at) s in
+            let within : f .at ≤ length s = omega (arith, f .here) in
+            let long : length front ≡ f .at = length-take-le (f .at) s within in
+            let agreed : Agree (f .at) s front = subst (Agree (f .at) s) (append-nil front) (agrees s (f .at) within []) in
+            by-test (f .at ≡? 0) (first-true _ _)
+            (λ h.
+            let some : 0 < length front = omega (arith, eqb-false (f .at) 0 h) in
+            second-true _ _ h (reached-fine voice front (subst (Reached voice front) (sym long) (reached-in (f .at) front (omega arith) agreed)) some))
+
+        zeros-except : (number ≡ 23) × ThreeZeros voice s place × Beginning voice (take (place + 1) s)
+        unfolding zero-after
+        zeros-except =
+            let c = zero-continues in
+            let is = zeros-at zero-after (c .front) z in
+            let ended : f .at + 4 ≡ length zero-after = omega (arith, zero-length) in (
+              is .0,
+              record { start = f .at; starts = start-accepted; last = is .1; zeros = (is .2, is .3, is .4) },
+              record {
+                rest = 0x00 ∷ [];
+                bytes = each-byte (0x00 ∷ []) (omega arith);
+                accepted =
+                    ended-fine voice zero-after (f .at) (reached-in (place + 1) zero-after (omega (arith, past)) (c .front))
+                    (ap itemSeen (zeros-read voice zero-after (f .at) z) ∙ ap ends ended);
+              },
+            )
+
+-- THE THEOREMS
+
+-- a body is refused with 11, 20, 21, 22 or 23
+pub refused-with : (voice : Voice) (s : List ℕ) (number place : ℕ) → bodyOf voice s ≡ refused number place → (number ≡ 11) ⊎ ((20 ≤ number) × (number ≤ 23))
+refused-with voice s number place e =
+    ⊎-map (λ h. h) (λ f. ⊎-elim (λ c. omega arith) (λ w. omega arith) (f .fault .cause)) (faulty voice s number place e)
+
+-- 20: nothing is wrong but that bytes are missing after the last
+pub cut-short : (voice : Voice) (s : List ℕ) (place : ℕ) → bodyOf voice s ≡ refused 20 place → (place ≡ length s) × Beginning voice s
+cut-short voice s place e =
+    ⊎-elim (λ h. absurd (omega arith))
+    (λ f.
+    let last : place ≡ length s = ⊎-elim (λ c. c .1) (λ w. absurd (omega arith)) (f .fault .cause) in
+    (last, subst (Beginning voice) (take-all place s (omega arith)) (before-begins voice s 20 place f)))
+    (faulty voice s 20 place e)
+
+-- 21, 22, 23: the first byte that cannot stand
+pub first-that-cannot-stand : (voice : Voice) (s : List ℕ) (number place : ℕ) → bodyOf voice s ≡ refused number place → 21 ≤ number
+    → (place < length s) × Beginning voice (take place s)
+    × (((number ≡ 23) × ThreeZeros voice s place × Beginning voice (take (place + 1) s)) ⊎ (Beginning voice (take (place + 1) s) → ⊥))
+first-that-cannot-stand voice s number place e high =
+    ⊎-elim (λ h. absurd (omega arith))
+    (λ f.
+    ⊎-elim (λ c. absurd (omega arith))
+    (λ w. (
+      w .within,
+      before-begins voice s number place f,
+      ⊎-elim (λ q. inr (zero-refused voice s number place f w q)) (λ z. inl (zeros-except voice s number place f w z))
+          (refused-or-zeros voice (zero-after voice s number place f w) (f .at) number place
+          (w .stays (zero-after voice s number place f w) (zero-continues voice s number place f w .front))),
+    ))
+    (f .fault .cause))
+    (faulty voice s number place e)
