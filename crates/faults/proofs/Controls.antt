@@ -14,7 +14,6 @@ use Rattle.model.specs.declared.Voice.the-variants.{Score, Pcm}
 use Rattle.model.specs.declared.ReadEvent.{ReadEvent}
 use Rattle.model.specs.declared.ReadEvent.the-variants.{Is, Refused}
 use Rattle.model.proofs.Tests.{if-all}
-use Rattle.faults.proofs.Agreement.{Agree, Continued}
 use Rattle.faults.proofs.Exact.{Seen, Seen.ends, Seen.fails, Mended, Exact, cut-here, wrong-here}
 
 abbrev pub eventSeen : ReadEvent → Seen
@@ -85,19 +84,22 @@ module _ (voice : Voice) (s : List ℕ) (at : ℕ) where
           (λ i. if-all ControlExact (length s ≤? at + 2) _ _
           (λ j. cut-here eventSeen s _ (at + 1) (at + 2) _ (omega arith) (value-mended h i) (omega (arith, leb-true)))
           (λ j. if-all ControlExact (isValue (longKind (s ! (at + 1) % 16)) (s ! (at + 2))) _ _
-          (λ k. (omega arith, λ t a.
-              let room : at + 1 < length t = omega arith in
-              let more : at + 2 < length t = omega arith in
-              let second = a .same (at + 1) (omega arith) in
-              let third = a .same (at + 2) (omega arith) in
-              simp (lt-leb, second, third, long, h, i, k)))
+          (λ k. (
+            omega arith,
+            λ t a.
+                let room : at + 1 < length t = omega arith in
+                let more : at + 2 < length t = omega arith in
+                let second = a .same (at + 1) (omega arith) in
+                let third = a .same (at + 2) (omega arith) in
+                simp (lt-leb, second, third, long, h, i, k),
+          ))
           (λ k. wrong-here eventSeen s _ (at + 1) (at + 2) _ (omega arith) (value-mended h i) 23 (omega arith) (omega arith) (omega (arith, leb-false))
-              (λ t a.
-              let room : at + 1 < length t = omega arith in
-              let more : at + 2 < length t = omega arith in
-              let second = a .same (at + 1) (omega arith) in
-              let third = a .same (at + 2) (omega arith) in
-              simp (lt-leb, second, third, long, h, i, k))))))
+          (λ t a.
+          let room : at + 1 < length t = omega arith in
+          let more : at + 2 < length t = omega arith in
+          let second = a .same (at + 1) (omega arith) in
+          let third = a .same (at + 2) (omega arith) in
+          simp (lt-leb, second, third, long, h, i, k))))))
 
     module _ (short : (s ! (at + 1) / 16 % 4 ≡? 3) ≡ false) where
       short-exact : ControlExact (shortAt voice at (s ! (at + 1) / 64) (shortKind (s ! (at + 1) / 16 % 4)) (s ! (at + 1) % 16))
@@ -109,10 +111,13 @@ module _ (voice : Voice) (s : List ℕ) (at : ℕ) where
           (λ i. second-wrong 23 (omega arith) (omega arith) (λ t r e. simp (lt-leb, e, short, h, i)))
           (λ i. if-all ControlExact (s ! (at + 1) % 16 ≡? 15) _ _
           (λ j. second-wrong 23 (omega arith) (omega arith) (λ t r e. simp (lt-leb, e, short, h, i, j)))
-          (λ j. (omega arith, λ t a.
-              let room : at + 1 < length t = omega arith in
-              let second = a .same (at + 1) (omega arith) in
-              simp (lt-leb, second, short, h, i, j)))))
+          (λ j. (
+            omega arith,
+            λ t a.
+                let room : at + 1 < length t = omega arith in
+                let second = a .same (at + 1) (omega arith) in
+                simp (lt-leb, second, short, h, i, j),
+          ))))
 
   pub control-exact : at < length s → Exact eventSeen s (λ t. controlAt voice t at) (at + 1) (controlAt voice s at)
   unfolding controlAt formed if_then_else_

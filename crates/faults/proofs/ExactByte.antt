@@ -5,7 +5,7 @@ use Prim.Native.Nat.{ℕ, _+_, _<_, _≤_}
 use mathlib.Core.Bool.{true}
 use mathlib.Core.List.{List, [], _∷_, _++_, append-nil}
 use mathlib.Core.Logic.{_⊎_, inl, inr, ⊎-elim, ⊎-map}
-use mathlib.Core.Path.{_≡_, refl, sym, _∙_, ap, subst}
+use mathlib.Core.Path.{_≡_, sym, _∙_, ap, subst}
 use lib.ListN.{length, take, length-append}
 use lib.Seq.{length-take-le, take-all}
 use native.Mathlib.Omega.{arith}
@@ -19,7 +19,7 @@ use Rattle.model.specs.declared.ReadItem.the-variants.{EndMark, Refused}
 use Rattle.model.proofs.Tests.{by-test, first-true, second-true}
 use Rattle.items.proofs.Ahead.{ItemAhead, item-ahead}
 use Rattle.faults.proofs.Agreement.{Agree, agree-fewer, Continued, agrees, continues, each-byte}
-use Rattle.faults.proofs.Exact.{Seen.ends, Mended, Wrong, Cause, Fault}
+use Rattle.faults.proofs.Exact.{Seen.ends, Wrong, Fault}
 use Rattle.faults.proofs.Items.{itemSeen, timedAt, zeros-refused, Zeros, zeros-read, ends-read, refused-or-zeros, refused-exact}
 use Rattle.faults.proofs.Reached.{Reached, reached-stays, reached-fine, ended-fine, refused-not-fine, body-told}
 

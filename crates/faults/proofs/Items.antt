@@ -8,7 +8,7 @@ use lib.ListN.{length, length-append}
 use lib.Seq.{getD-append-add}
 use native.Mathlib.Omega.{arith}
 use borrow.Author.Tests.{le-leb, lt-leb, leb-true, eqb-true}
-use Rattle.model.specs.Words.{if_then_else_, _and_, _≤?_, _≡?_}
+use Rattle.model.specs.Words.{if_then_else_, _and_}
 use Rattle.model.specs.Bytes.{_!_}
 use Rattle.model.specs.Duration.{durationAt}
 use Rattle.model.specs.Event.{hasKind, shortAt, formed, controlAt, eventAt}
@@ -16,7 +16,6 @@ use Rattle.model.specs.Item.{isEndMark, withEvent, withDuration, itemAt}
 use Rattle.model.specs.declared.Voice.{Voice}
 use Rattle.model.specs.declared.Voice.the-variants.{Score, Pcm}
 use Rattle.model.specs.declared.Event.{Event}
-use Rattle.model.specs.declared.Event.the-variants.{Nop}
 use Rattle.model.specs.declared.ReadDuration.{ReadDuration}
 use Rattle.model.specs.declared.ReadDuration.the-variants as duration
 use Rattle.model.specs.declared.ReadEvent.{ReadEvent}
@@ -26,7 +25,7 @@ use Rattle.model.specs.declared.ReadItem.the-variants.{Timed, EndMark, Refused}
 use Rattle.model.proofs.Tests.{by-test, if-true, if-false, and-left, and-right}
 use Rattle.items.proofs.Ahead.{DurationAhead, duration-ahead}
 use Rattle.faults.proofs.Agreement.{Agree, Continued, continued-first, AreBytes}
-use Rattle.faults.proofs.Exact.{Seen, Seen.ends, Seen.fails, Mended, Cause, Fault, Exact, exact-made}
+use Rattle.faults.proofs.Exact.{Seen, Seen.ends, Seen.fails, Cause, Fault, Exact, exact-made}
 use Rattle.faults.proofs.Durations.{durationSeen, duration-exact}
 use Rattle.faults.proofs.Controls.{eventSeen}
 use Rattle.faults.proofs.Events.{nop-reads, event-exact}

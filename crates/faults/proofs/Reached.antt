@@ -1,14 +1,13 @@
 -- Places that a walk through a body REACHES by items that are no end marks: they are reached in every body with the same bytes before them; what
 -- stands there decides whether the body reads; and a body that is refused with more than 11 is refused for the item at one of them.
-use Prim.Native.Nat.{ℕ, zero, suc, _+_, _<_, _≤_}
-use mathlib.Core.Bool.{Bool, true, false}
+use Prim.Native.Nat.{ℕ, suc, _+_, _<_, _≤_}
+use mathlib.Core.Bool.{true}
 use mathlib.Core.List.{List, [], _∷_}
 use mathlib.Core.Logic.{_⊎_, inl, inr}
 use mathlib.Core.Path.{_≡_, refl, sym, _∙_, ap, subst}
 use lib.ListN.{length}
 use native.Mathlib.Omega.{arith}
-use borrow.Author.Tests.{eqb-true}
-use Rattle.model.specs.Words.{if_then_else_, _and_, _<?_, _≡?_, Placed, Checked, Checked.fine, Checked.refused, passed, Step.met, Step.stuck, walkTo, inTurn}
+use Rattle.model.specs.Words.{_and_, _<?_, _≡?_, Placed, Checked, Checked.refused, passed, Step.met, Step.stuck, walkTo}
 use Rattle.model.specs.Item.{Item, Item.timed, Item.endMark, itemAt, itemMet, itemStep, isMark, markIsLast, bodyOf, isFine, found}
 use Rattle.model.specs.declared.Voice.{Voice}
 use Rattle.model.specs.declared.Event.{Event}
@@ -20,7 +19,7 @@ use Rattle.items.proofs.Ahead.{ItemAhead, item-ahead}
 use Rattle.items.proofs.Reading.{unmarked-passes, last-passes, mark-refuses}
 use Rattle.items.proofs.Standing.{body-stands, body-reads-to}
 use Rattle.faults.proofs.Agreement.{Agree, agree-fewer}
-use Rattle.faults.proofs.Exact.{Seen, Seen.ends, Seen.fails}
+use Rattle.faults.proofs.Exact.{Seen.ends}
 use Rattle.faults.proofs.Items.{itemSeen, timed-stays}
 
 pub data Reached (voice : Voice) (s : List ℕ) : ℕ → Type 0 where
@@ -151,5 +150,5 @@ module _ (voice : Voice) (s : List ℕ) where
   body-told number place =
       if-all (λ (c : Checked Items). c ≡ refused number place → Told number place) (length s ≡? 0) _ _ (λ h e. inl cc)
       (λ h e. refused-tells 11 (length s) (itemStep voice s) (markIsLast (length s)) (λ at. at < length s → Reached voice s at) Told reached-on
-          (λ at r. inl refl) stuck-told (λ at next n there item before r is q. inl (mark-refuses-11 before item n there q))
-          (suc (length s)) 0 [] number place (λ here. head) e)
+      (λ at r. inl refl) stuck-told (λ at next n there item before r is q. inl (mark-refuses-11 before item n there q))
+      (suc (length s)) 0 [] number place (λ here. head) e)

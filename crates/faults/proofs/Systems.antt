@@ -1,7 +1,6 @@
 -- NOPs and exclusives are read exactly. A second byte 00 makes a NOP; a size 03 and its bytes make an exclusive, and so do zeros up to the last
 -- byte of the size that it has, and F7 there.
 use Prim.Native.Nat.{ℕ, zero, suc, _+_, _-_, _<_, _≤_}
-use mathlib.Core.Bool.{true, false}
 use mathlib.Core.List.{List, [], _∷_, _++_}
 use mathlib.Core.Path.{_≡_, refl, _∙_}
 use lib.ListN.{length, replicate, length-append, length-replicate}
@@ -11,10 +10,8 @@ use borrow.Author.Tests.{lt-leb, leb-true, leb-false, le-ltb, ltb-false}
 use Rattle.model.specs.Words.{if_then_else_, _<?_, _≤?_, _≡?_}
 use Rattle.model.specs.Bytes.{_!_}
 use Rattle.model.specs.Event.{closedAt, exclusiveAt, systemAt}
-use Rattle.model.specs.declared.ReadEvent.{ReadEvent}
-use Rattle.model.specs.declared.ReadEvent.the-variants.{Is, Refused}
 use Rattle.model.proofs.Tests.{if-all}
-use Rattle.faults.proofs.Agreement.{Agree, Continued, AreBytes}
+use Rattle.faults.proofs.Agreement.{AreBytes}
 use Rattle.faults.proofs.Exact.{Mended, Exact, exact-as, cut-here, wrong-here}
 use Rattle.faults.proofs.Controls.{eventSeen}
 
@@ -71,29 +68,32 @@ module _ (s : List ℕ) (at : ℕ) where
       (λ h. cut-here eventSeen s _ (at + 2) (at + 2) _ (omega arith) (size-mended within) (omega (arith, leb-true)))
       (λ h. if-all (Exact eventSeen s (λ t. exclusiveAt t at) (at + 2)) (s ! (at + 2) <? 3) _ _
       (λ i. wrong-here eventSeen s _ (at + 2) (at + 2) _ (omega arith) (size-mended within) 23 (omega arith) (omega arith) (omega (arith, leb-false))
-          (λ t a.
-          let room : at + 2 < length t = omega arith in
-          let size = a .same (at + 2) (omega arith) in
-          simp (lt-leb, size, i)))
+      (λ t a.
+      let room : at + 2 < length t = omega arith in
+      let size = a .same (at + 2) (omega arith) in
+      simp (lt-leb, size, i)))
       (λ i. if-all (Exact eventSeen s (λ t. exclusiveAt t at) (at + 2)) (length s ≤? at + 2 + s ! (at + 2)) _ _
       (λ j. cut-here eventSeen s _ (at + 2) (length s) _ within
-          (ending-mended (length s) (omega (arith, leb-false)) (leb-true _ _ j) (omega arith) (ltb-false _ _ i)) refl)
+      (ending-mended (length s) (omega (arith, leb-false)) (leb-true _ _ j) (omega arith) (ltb-false _ _ i)) refl)
       (λ j. if-all (Exact eventSeen s (λ t. exclusiveAt t at) (at + 2)) (s ! (at + 2 + s ! (at + 2)) ≡? 0xF7) _ _
-      (λ k. (omega arith, λ t a.
-          let room : at + 2 < length t = omega arith in
-          let more : at + 2 + s ! (at + 2) < length t = omega arith in
-          let size = a .same (at + 2) (omega arith) in
-          let last = a .same (at + 2 + s ! (at + 2)) (omega arith) in
-          simp (lt-leb, size, i, last, k)))
+      (λ k. (
+        omega arith,
+        λ t a.
+            let room : at + 2 < length t = omega arith in
+            let more : at + 2 + s ! (at + 2) < length t = omega arith in
+            let size = a .same (at + 2) (omega arith) in
+            let last = a .same (at + 2 + s ! (at + 2)) (omega arith) in
+            simp (lt-leb, size, i, last, k),
+      ))
       (λ k. wrong-here eventSeen s _ (at + 2) (at + 2 + s ! (at + 2)) _ (omega arith)
-          (ending-mended (at + 2 + s ! (at + 2)) (omega (arith, ltb-false)) (omega arith) (omega (arith, leb-false)) (ltb-false _ _ i))
-          23 (omega arith) (omega arith) (leb-false _ _ j)
-          (λ t a.
-          let room : at + 2 < length t = omega (arith, ltb-false) in
-          let more : at + 2 + s ! (at + 2) < length t = omega arith in
-          let size = a .same (at + 2) (omega (arith, ltb-false)) in
-          let last = a .same (at + 2 + s ! (at + 2)) (omega arith) in
-          simp (lt-leb, size, i, last, k))))))
+      (ending-mended (at + 2 + s ! (at + 2)) (omega (arith, ltb-false)) (omega arith) (omega (arith, leb-false)) (ltb-false _ _ i))
+      23 (omega arith) (omega arith) (leb-false _ _ j)
+      (λ t a.
+      let room : at + 2 < length t = omega (arith, ltb-false) in
+      let more : at + 2 + s ! (at + 2) < length t = omega arith in
+      let size = a .same (at + 2) (omega (arith, ltb-false)) in
+      let last = a .same (at + 2 + s ! (at + 2)) (omega arith) in
+      simp (lt-leb, size, i, last, k))))))
 
   system-mended : at + 1 ≤ length s → Mended eventSeen s (λ t. systemAt t at) (at + 1)
   unfolding systemAt if_then_else_
@@ -114,19 +114,22 @@ module _ (s : List ℕ) (at : ℕ) where
       if-all (Exact eventSeen s (λ t. systemAt t at) (at + 1)) (length s ≤? at + 1) _ _
       (λ h. cut-here eventSeen s _ (at + 1) (at + 1) _ (omega arith) (system-mended within) (omega (arith, leb-true)))
       (λ h. if-all (Exact eventSeen s (λ t. systemAt t at) (at + 1)) (s ! (at + 1) ≡? 0x00) _ _
-      (λ i. (omega arith, λ t a.
-          let room : at + 1 < length t = omega arith in
-          let second = a .same (at + 1) (omega arith) in
-          simp (lt-leb, second, i)))
+      (λ i. (
+        omega arith,
+        λ t a.
+            let room : at + 1 < length t = omega arith in
+            let second = a .same (at + 1) (omega arith) in
+            simp (lt-leb, second, i),
+      ))
       (λ i. if-all (Exact eventSeen s (λ t. systemAt t at) (at + 1)) (s ! (at + 1) ≡? 0xF0) _ _
       (λ j. exact-as eventSeen s (λ t. exclusiveAt t at) _ (at + 2)
-          (λ t a.
-          let room : at + 1 < length t = omega arith in
-          let second = a .same (at + 1) (omega arith) in
-          simp (lt-leb, second, i, j))
-          (at + 1) (exclusiveAt s at) (omega arith) (exclusive-exact (omega (arith, leb-false))))
+      (λ t a.
+      let room : at + 1 < length t = omega arith in
+      let second = a .same (at + 1) (omega arith) in
+      simp (lt-leb, second, i, j))
+      (at + 1) (exclusiveAt s at) (omega arith) (exclusive-exact (omega (arith, leb-false))))
       (λ j. wrong-here eventSeen s _ (at + 1) (at + 1) _ (omega arith) (system-mended within) 22 (omega arith) (omega arith) (omega (arith, leb-false))
-          (λ t a.
-          let room : at + 1 < length t = omega arith in
-          let second = a .same (at + 1) (omega arith) in
-          simp (lt-leb, second, i, j)))))
+      (λ t a.
+      let room : at + 1 < length t = omega arith in
+      let second = a .same (at + 1) (omega arith) in
+      simp (lt-leb, second, i, j)))))
