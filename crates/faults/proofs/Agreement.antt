@@ -1,7 +1,7 @@
 -- Bodies that AGREE on their first bytes, and one that goes on from the first bytes of another with bytes of its own.
 use Prim.Native.Nat.{ℕ, zero, suc, _+_, _<_, _≤_}
 use mathlib.Core.List.{List, [], _∷_, _++_}
-use mathlib.Core.Path.{_≡_, _∙_, ap}
+use mathlib.Core.Path.{_≡_, refl, _∙_, ap}
 use lib.ListN.{length, take, length-append, List·getD-append}
 use lib.Seq.{length-take-le, getD-take, getD-append-add}
 use native.Mathlib.Omega.{arith}
@@ -14,6 +14,9 @@ pub record Agree (count : ℕ) (s t : List ℕ) : Type 0 where
 
 pub agree-fewer : (fewer count : ℕ) (s t : List ℕ) → fewer ≤ count → Agree count s t → Agree fewer s t
 agree-fewer fewer count s t h a = record { within = omega arith; room = omega arith; same = λ i k. a .same i (omega arith) }
+
+pub agree-itself : (count : ℕ) (s : List ℕ) → count ≤ length s → Agree count s s
+agree-itself count s h = record { within = h; room = h; same = λ i k. refl }
 
 -- a body of so many bytes of s, then those of rest, and any others behind
 pub record Continued (s : List ℕ) (place : ℕ) (rest t : List ℕ) : Type 0 where

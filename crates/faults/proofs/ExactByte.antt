@@ -30,7 +30,7 @@ module _ (voice : Voice) (s : List ℕ) where
     reached : Reached voice s at
     here : at < length s
     within : place ≤ length s
-    fault : Fault itemSeen s (λ t. timedAt voice t at) at (Refused number place) number place
+    fault : Fault itemSeen s (λ t. timedAt voice t at) (λ t. timedAt voice t at) at (Refused number place) number place
 
   faulty : (number place : ℕ) → bodyOf voice s ≡ refused number place → (number ≡ 11) ⊎ Faulty number place
   faulty number place e = go (body-told voice s number place e)
@@ -67,7 +67,7 @@ module _ (voice : Voice) (s : List ℕ) where
           accepted = ended-fine voice t (f .at) (reached-in place t past (c .front)) (ends-read voice t (f .at) (length t) (m .reads t c ∙ ap ends long));
         }
 
-    module _ (w : Wrong itemSeen s (λ t. timedAt voice t (f .at)) (Refused number place) number place) where
+    module _ (w : Wrong s (λ t. timedAt voice t (f .at)) (Refused number place) number place) where
       -- what an end mark there, in a body with the same bytes up to that place, says of them
       zeros-at : (t : List ℕ) → Agree (place + 1) s t → Zeros t (f .at)
           → (number ≡ 23) × (place ≡ f .at + 2) × (s ! (f .at) ≡ 0) × (s ! (f .at + 1) ≡ 0) × (s ! place ≡ 0)

@@ -25,7 +25,7 @@ use Rattle.model.specs.declared.ReadItem.the-variants.{Timed, EndMark, Refused}
 use Rattle.model.proofs.Tests.{by-test, if-true, if-false, and-left, and-right}
 use Rattle.items.proofs.Ahead.{DurationAhead, duration-ahead}
 use Rattle.faults.proofs.Agreement.{Agree, Continued, continued-first, AreBytes}
-use Rattle.faults.proofs.Exact.{Seen, Seen.ends, Seen.fails, Cause, Fault, Exact, exact-made}
+use Rattle.faults.proofs.Exact.{Seen, Seen.ends, Seen.fails, cause-as, Fault, ExactAs, Exact, is-exact, exact-as, exact-made}
 use Rattle.faults.proofs.Durations.{durationSeen, duration-exact}
 use Rattle.faults.proofs.Controls.{eventSeen}
 use Rattle.faults.proofs.Events.{nop-reads, event-exact}
@@ -61,32 +61,36 @@ module _ (voice : Voice) (s : List ℕ) (at : ℕ) where
       ap (λ (r : ReadEvent). itemSeen (withEvent value r)) (nop-reads voice t next (omega (arith, c .room)) first second) ∙ ap ends (omega arith)
   nop-follows t place rest c (duration.Refused number there) e = let z : _≡_ {A = ℕ} 0 1 = cc in absurd (omega arith)
 
-  timed-exact : at < length s → Exact itemSeen s (λ t. timedAt voice t at) at (timedAt voice s at)
+  -- a fault of the duration is one of the item
+  duration-fault : (number place : ℕ) → durationAt s at ≡ duration.Refused number place
+      → Fault durationSeen s (λ t. durationAt t at) (λ t. durationAt t at) at (duration.Refused number place) number place
+      → Exact itemSeen s (λ t. timedAt voice t at) (λ t. timedAt voice t at) at
   unfolding withDuration
-  timed-exact here = go (durationAt s at) (duration-ahead s at) (duration-exact s at here)
-    where
-      cause : (number place : ℕ) → Cause durationSeen s (λ t. durationAt t at) (duration.Refused number place) number place
-          → Cause itemSeen s (λ t. timedAt voice t at) (Refused number place) number place
-      cause number place (inl c) = inl c
-      cause number place (inr w) =
-          inr (record { low = w .low; high = w .high; within = w .within; stays = λ t a. ap (withDuration voice t) (w .stays t a) })
+  duration-fault number place e f =
+      let m = f .mended in
+      is-exact itemSeen s _ (λ t. timedAt voice t at) at (Refused number place) (fails number place) (ap (withDuration voice s) e) refl
+      (record {
+        past = f .past;
+        cause = cause-as s _ _ _ _ number place (λ t a q. ap (withDuration voice t) q) (f .cause);
+        mended = record {
+          rest = m .rest ++ (0xFF ∷ 0x00 ∷ []);
+          bytes = bytes-both (m .rest) _ (m .bytes) (omega arith);
+          reads = λ t c. nop-follows t place (m .rest) c (durationAt t at) (m .reads t (continued-first s place (m .rest) _ t c));
+        };
+      })
 
-      go : (d : ReadDuration) → DurationAhead at (length s) d → Exact durationSeen s (λ t. durationAt t at) at d
-          → Exact itemSeen s (λ t. timedAt voice t at) at (withDuration voice s d)
-      go (duration.Is value next) ahead e =
-          exact-made eventSeen itemSeen (withEvent value) (event-seen value) s (λ t. eventAt voice t next) _ next
-          (λ t a. ap (withDuration voice t) (e .1 t a)) at (eventAt voice s next) (e .0) (event-exact voice s next (ahead .1))
-      go (duration.Refused number place) ahead f =
-          let m = f .mended in
-          record {
-            past = f .past;
-            cause = cause number place (f .cause);
-            mended = record {
-              rest = m .rest ++ (0xFF ∷ 0x00 ∷ []);
-              bytes = bytes-both (m .rest) _ (m .bytes) (omega arith);
-              reads = λ t c. nop-follows t place (m .rest) c (durationAt t at) (m .reads t (continued-first s place (m .rest) _ t c));
-            };
-          }
+  timed-exact : at < length s → Exact itemSeen s (λ t. timedAt voice t at) (λ t. timedAt voice t at) at
+  unfolding withDuration
+  timed-exact here = go (durationAt s at) refl (duration-ahead s at) (duration-exact s at here .exactly)
+    where
+      go : (d : ReadDuration) → durationAt s at ≡ d → DurationAhead at (length s) d
+          → ExactAs durationSeen s (λ t. durationAt t at) (λ t. durationAt t at) at d (durationSeen d) → Exact itemSeen s (λ t. timedAt voice t at) (λ t. timedAt voice t at) at
+      go (duration.Is value next) e ahead x =
+          let alike : (t : List ℕ) → Agree next s t → timedAt voice t at ≡ withEvent value (eventAt voice t next) = λ t a. ap (withDuration voice t) (x .1 t a) in
+          exact-as itemSeen s _ _ (λ t. timedAt voice t at) at next next (omega arith) alike
+          (exact-made eventSeen itemSeen (withEvent value) (event-seen value) s (λ t. eventAt voice t next) _ next alike _ next (omega arith)
+          (event-exact voice s next (ahead .1)))
+      go (duration.Refused number place) e ahead f = duration-fault number place e f
 
 -- THREE ZEROS, and an end mark
 
@@ -165,8 +169,11 @@ module _ (voice : Voice) (s : List ℕ) (at : ℕ) where
 
 -- An item that is read is read no differently where other bytes follow, and a refused one is refused exactly.
 module _ (voice : Voice) (s : List ℕ) (at : ℕ) (here : at < length s) where
-  read-exact : (r : ReadItem) → itemAt voice s at ≡ r → (EndMark (at + 4) ≡ r → ⊥) → Exact itemSeen s (λ t. timedAt voice t at) at r
-  read-exact r e other = subst (Exact itemSeen s (λ t. timedAt voice t at) at) (no-mark voice s at r e other) (timed-exact voice s at here)
+  read-exact : (r : ReadItem) → itemAt voice s at ≡ r → (EndMark (at + 4) ≡ r → ⊥)
+      → ExactAs itemSeen s (λ t. timedAt voice t at) (λ t. timedAt voice t at) at r (itemSeen r)
+  read-exact r e other =
+      subst (λ (v : ReadItem). ExactAs itemSeen s (λ t. timedAt voice t at) (λ t. timedAt voice t at) at v (itemSeen v)) (no-mark voice s at r e other)
+      (timed-exact voice s at here .exactly)
 
   pub timed-stays : (duration next : ℕ) (event : Event) → itemAt voice s at ≡ Timed duration event next → (t : List ℕ) → Agree next s t
       → itemAt voice t at ≡ Timed duration event next
@@ -175,5 +182,5 @@ module _ (voice : Voice) (s : List ℕ) (at : ℕ) (here : at < length s) where
       no-zeros voice t at (λ z. let w : _≡_ {A = ℕ} 0 1 = cc in omega arith) ∙ same
 
   pub refused-exact : (number place : ℕ) → itemAt voice s at ≡ Refused number place
-      → Fault itemSeen s (λ t. timedAt voice t at) at (Refused number place) number place
+      → Fault itemSeen s (λ t. timedAt voice t at) (λ t. timedAt voice t at) at (Refused number place) number place
   refused-exact number place e = read-exact (Refused number place) e (λ q. let w : _≡_ {A = ℕ} 0 1 = cc in omega arith)
