@@ -1,5 +1,5 @@
 -- What is read at a place ends within the body and past the place, an event by two bytes or more, an item by three or more and an end mark by
--- four; and a fault has a place within the body, or at its end.
+-- four; and a fault has a number from 20 to 23, and a place within the body or at its end.
 use Prim.Native.Nat.{ℕ, _+_, _<_, _≤_}
 use mathlib.Core.List.{List}
 use mathlib.Core.Path.{_≡_}
@@ -20,18 +20,21 @@ use Rattle.model.proofs.Tests.{if-all}
 use Rattle.model.proofs.Walks.{GoesOn}
 use Rattle.items.proofs.Matches.{end-mark-within}
 
+abbrev pub FaultWithin : ℕ → ℕ → ℕ → Type 0
+FaultWithin end number place = (20 ≤ number) × (number ≤ 23) × (place ≤ end)
+
 abbrev pub DurationAhead : ℕ → ℕ → ReadDuration → Type 0
 DurationAhead at end (duration.Is value next) = (at < next) × (next ≤ end)
-DurationAhead at end (duration.Refused number place) = place ≤ end
+DurationAhead at end (duration.Refused number place) = FaultWithin end number place
 
 abbrev pub EventAhead : ℕ → ℕ → ReadEvent → Type 0
 EventAhead at end (event.Is what next) = (at + 2 ≤ next) × (next ≤ end)
-EventAhead at end (event.Refused number place) = place ≤ end
+EventAhead at end (event.Refused number place) = FaultWithin end number place
 
 abbrev pub ItemAhead : ℕ → ℕ → ReadItem → Type 0
 ItemAhead at end (Timed length event next) = (at + 3 ≤ next) × (next ≤ end)
 ItemAhead at end (EndMark next) = (next ≡ at + 4) × (next ≤ end)
-ItemAhead at end (Refused number place) = place ≤ end
+ItemAhead at end (Refused number place) = FaultWithin end number place
 
 pub duration-ahead : (s : List ℕ) (at : ℕ) → DurationAhead at (length s) (durationAt s at)
 unfolding durationAt
@@ -126,12 +129,6 @@ item-ahead voice s at =
     if-all (ItemAhead at (length s)) _ _ _ (λ h. omega (arith, end-mark-within s at h))
     (λ h. with-duration-ahead voice s at (durationAt s at) (duration-ahead s at))
 
-pub setup-message-ahead : (s : List ℕ) (at : ℕ) → at ≤ length s → EventAhead at (length s) (setupMessageAt s at)
-unfolding setupMessageAt
-setup-message-ahead s at within =
-    if-all (EventAhead at (length s)) _ _ _ (λ h. within)
-    (λ h. if-all (EventAhead at (length s)) _ _ _ (λ i. exclusive-ahead s at) (λ i. within))
-
 -- so the walks over items and over setup messages go on
 
 item-met-goes : (at end : ℕ) (item : ReadItem) → ItemAhead at end item → GoesOn end at (itemMet at item)
@@ -144,11 +141,16 @@ pub item-goes : (voice : Voice) (s : List ℕ) (at : ℕ) → GoesOn (length s) 
 unfolding itemStep
 item-goes voice s at = item-met-goes at (length s) (itemAt voice s at) (item-ahead voice s at)
 
-message-met-goes : (at end : ℕ) (message : ReadEvent) → EventAhead at end message → GoesOn end at (messageMet at message)
+abbrev MessageGoes : ℕ → ℕ → ReadEvent → Type 0
+MessageGoes end at message = GoesOn end at (messageMet at message)
+
+message-met-goes : (at end : ℕ) (message : ReadEvent) → EventAhead at end message → MessageGoes end at message
 unfolding messageMet
 message-met-goes at end (event.Is what next) a = omega arith
 message-met-goes at end (event.Refused number place) a = tt
 
-pub message-goes : (s : List ℕ) (at : ℕ) → at ≤ length s → GoesOn (length s) at (setupStep s at)
-unfolding setupStep
-message-goes s at within = message-met-goes at (length s) (setupMessageAt s at) (setup-message-ahead s at within)
+pub message-goes : (s : List ℕ) (at : ℕ) → GoesOn (length s) at (setupStep s at)
+unfolding setupStep setupMessageAt messageMet
+message-goes s at =
+    if-all (MessageGoes (length s) at) _ _ _ (λ h. tt)
+    (λ h. if-all (MessageGoes (length s) at) _ _ _ (λ i. message-met-goes at (length s) (exclusiveAt s at) (exclusive-ahead s at)) (λ i. tt))

@@ -13,8 +13,8 @@ use Rattle.model.specs.declared.ReadEvent.{ReadEvent}
 use Rattle.model.specs.declared.ReadEvent.the-variants as event
 use Rattle.model.specs.declared.Check.the-variants as check
 use Rattle.model.proofs.Answers.{answer-first}
-use Rattle.model.proofs.Walks.{Left, left-starts, left-ends, left-stuck, left-next}
-use Rattle.items.proofs.Ahead.{EventAhead, setup-message-ahead}
+use Rattle.model.proofs.Walks.{GoesOn, Left, left-starts, left-ends, left-stuck, left-next}
+use Rattle.items.proofs.Ahead.{message-goes}
 
 abbrev free : List Event → Event → Checked (Unit {0})
 free before message = passed
@@ -54,8 +54,9 @@ module _ (s : List ℕ) (at : ℕ) (r : SettingUp s at) where
     setup-refused number place e =
         ap checkAnswer (sym (left-stuck _ _ _ _ at (r .before) (r .left) (r .walk) 10 at here (stands (event.Refused number place) e))) ∙ r .same
 
-    ahead : (next : ℕ) (message : Event) → i ≡ event.Is message next → (at + 2 ≤ next) × (next ≤ length s)
-    ahead next message e = subst (EventAhead at (length s)) (sym is ∙ e) (setup-message-ahead s at (omega arith))
+    ahead : (next : ℕ) (message : Event) → i ≡ event.Is message next → (at < next) × (next ≤ length s)
+    unfolding messageMet
+    ahead next message e = subst (GoesOn (length s) at) (stands (event.Is message next) e) (message-goes s at)
 
     pub setup-nears : (next : ℕ) (message : Event) → i ≡ event.Is message next → length s - next < length s - at
     setup-nears next message e = let a = ahead next message e in omega arith

@@ -62,7 +62,7 @@ setup-refused-within s n place e = go (length s ≡? 0) e
         → place ≤ length s
     go true q = let same : _≡_ {A = ℕ} 0 place = cc in omega arith
     go false q =
-        refused-within 10 (length s) (setupStep s) (λ before message. passed) (λ at h. message-goes s at h)
+        refused-within 10 (length s) (setupStep s) (λ before message. passed) (λ at h. message-goes s at)
         (λ at m there h is. omega (arith, stuck-message at (setupMessageAt s at) m there is))
         (λ at next m there message before h is refused. let z : _≡_ {A = ℕ} 0 1 = cc in absurd (omega arith))
         (suc (length s)) 0 [] n place (omega arith) q

@@ -3,11 +3,19 @@ ghost use mathlib.Core.Path.{_≡_};
 ghost use Prim.Native.Nat.{_+_, _<_};
 ghost use lib.ListN.{length};
 ghost use Rattle.model.specs.Event.{isNote, isWave, isSound, sound, soundAt, longKind, shortKind, hasKind, isShift, isValue, longAt, shortAt, formed, controlAt, closedAt, exclusiveAt, systemAt, eventAt, standardValue};
+ghost use Rattle.model.specs.declared.ReadEvent.the-variants.{Refused};
 use super::duration::read_gate;
 use model::Event;
 use model::ReadDuration;
 use model::ReadEvent;
 use model::Voice;
+
+// What is wrong with an event: a refusal's number, and the byte that cannot stand.
+fn fault(number: u32, place: usize) -> ReadEvent
+    ensures { λ r. ⌜ r ≡ Refused number place ⌝ }
+{
+    ReadEvent::Refused { number, place }
+}
 
 pub fn is_note(low: u8) -> bool
     ensures { λ r. ⌜ r ≡ isNote low ⌝ }
@@ -60,10 +68,7 @@ fn read_sound(voice: Voice, s: &[u8], at: usize) -> ReadEvent
 {
     let byte = s[at];
     if !is_sound(voice, byte) {
-        return ReadEvent::Refused {
-            number: 21,
-            place: at,
-        };
+        return fault(21, at);
     }
     match read_gate(s, at + 1) {
         ReadDuration::Is { value, next } => ReadEvent::Is {
@@ -127,29 +132,17 @@ fn read_long(voice: Voice, s: &[u8], at: usize, channel: u8, kind: u8) -> ReadEv
     ensures { λ r. ⌜ r ≡ longAt voice (now (s .entry)) at channel kind ⌝ }
 {
     if kind == 0 {
-        return ReadEvent::Refused {
-            number: 22,
-            place: at + 1,
-        };
+        return fault(22, at + 1);
     }
     if !has_kind(voice, kind) {
-        return ReadEvent::Refused {
-            number: 22,
-            place: at + 1,
-        };
+        return fault(22, at + 1);
     }
     if s.len() <= at + 2 {
-        return ReadEvent::Refused {
-            number: 20,
-            place: s.len(),
-        };
+        return fault(20, s.len());
     }
     let value = s[at + 2];
     if !is_value(kind, value) {
-        return ReadEvent::Refused {
-            number: 23,
-            place: at + 2,
-        };
+        return fault(23, at + 2);
     }
     ReadEvent::Is {
         event: Event::Control {
@@ -167,22 +160,13 @@ fn read_short(voice: Voice, at: usize, channel: u8, kind: u8, value: u8) -> Read
     ensures { λ r. ⌜ r ≡ shortAt voice at channel kind value ⌝ }
 {
     if !has_kind(voice, kind) {
-        return ReadEvent::Refused {
-            number: 22,
-            place: at + 1,
-        };
+        return fault(22, at + 1);
     }
     if value == 0 {
-        return ReadEvent::Refused {
-            number: 23,
-            place: at + 1,
-        };
+        return fault(23, at + 1);
     }
     if value == 15 {
-        return ReadEvent::Refused {
-            number: 23,
-            place: at + 1,
-        };
+        return fault(23, at + 1);
     }
     ReadEvent::Is {
         event: Event::Control {
@@ -211,10 +195,7 @@ fn read_control(voice: Voice, s: &[u8], at: usize) -> ReadEvent
     ensures { λ r. ⌜ r ≡ controlAt voice (now (s .entry)) at ⌝ }
 {
     if s.len() <= at + 1 {
-        return ReadEvent::Refused {
-            number: 20,
-            place: s.len(),
-        };
+        return fault(20, s.len());
     }
     read_formed(voice, s, at, s[at + 1])
 }
@@ -225,23 +206,14 @@ fn read_closed(s: &[u8], at: usize, size: u8) -> ReadEvent
     ensures { λ r. ⌜ r ≡ closedAt (now (s .entry)) at size ⌝ }
 {
     if size < 3 {
-        return ReadEvent::Refused {
-            number: 23,
-            place: at + 2,
-        };
+        return fault(23, at + 2);
     }
     let last = at + 2 + size as usize;
     if s.len() <= last {
-        return ReadEvent::Refused {
-            number: 20,
-            place: s.len(),
-        };
+        return fault(20, s.len());
     }
     if s[last] != 0xF7 {
-        return ReadEvent::Refused {
-            number: 23,
-            place: last,
-        };
+        return fault(23, last);
     }
     ReadEvent::Is {
         event: Event::Exclusive { place: at, size },
@@ -255,10 +227,7 @@ pub fn read_exclusive(s: &[u8], at: usize) -> ReadEvent
     ensures { λ r. ⌜ r ≡ exclusiveAt (now (s .entry)) at ⌝ }
 {
     if s.len() <= at + 2 {
-        return ReadEvent::Refused {
-            number: 20,
-            place: s.len(),
-        };
+        return fault(20, s.len());
     }
     read_closed(s, at, s[at + 2])
 }
@@ -269,10 +238,7 @@ fn read_system(s: &[u8], at: usize) -> ReadEvent
     ensures { λ r. ⌜ r ≡ systemAt (now (s .entry)) at ⌝ }
 {
     if s.len() <= at + 1 {
-        return ReadEvent::Refused {
-            number: 20,
-            place: s.len(),
-        };
+        return fault(20, s.len());
     }
     let byte = s[at + 1];
     if byte == 0x00 {
@@ -284,20 +250,14 @@ fn read_system(s: &[u8], at: usize) -> ReadEvent
     if byte == 0xF0 {
         return read_exclusive(s, at);
     }
-    ReadEvent::Refused {
-        number: 22,
-        place: at + 1,
-    }
+    fault(22, at + 1)
 }
 
 pub fn read_event(voice: Voice, s: &[u8], at: usize) -> ReadEvent
     ensures { λ r. ⌜ r ≡ eventAt voice (now (s .entry)) at ⌝ }
 {
     if s.len() <= at {
-        return ReadEvent::Refused {
-            number: 20,
-            place: s.len(),
-        };
+        return fault(20, s.len());
     }
     let byte = s[at];
     if byte == 0x00 {

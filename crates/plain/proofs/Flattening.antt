@@ -1,4 +1,4 @@
--- Demand 3 and the table of refusals: flattening answers the plain form, or is refused exactly where the file is (1 to 14), where the row
+-- Demand 3 and the table of refusals: flattening answers the plain form, or is refused exactly where the file is (1 to 14, 20 to 23), where the row
 -- names no readable track (16), where a phrase track has no order list (17), and where the plain form is longer than a body can be or than
 -- the room (18).
 use Prim.Native.Nat.{ℕ, _<_, _≤_}
@@ -21,7 +21,7 @@ use Rattle.model.specs.Answer.{Performance, named, ordered, performed, plainOf,
 use Rattle.model.specs.declared.Event.{Event}
 use Rattle.model.proofs.Outcomes.{bind-fine}
 use Rattle.model.proofs.Tests.{by-test, first-true, second-true}
-use Rattle.reading.proofs.FileRefusals.{file-refused}
+use Rattle.reading.proofs.FileRefusals.{Read, file-refused}
 use Rattle.reading.proofs.Performed.{named-fine}
 
 -- a plain form that is longer than a body can be, or than the room
@@ -29,7 +29,7 @@ abbrev pub TooLong : ℕ → Performance → Type 0
 TooLong room performance = (65536 < length (plainOf performance)) ⊎ (room < length (plainOf performance))
 
 pub data Refusal (buffer : List ℕ) (n row room number place : ℕ) : Type 0 where
-  unread : fileOf buffer n ≡ refused number place → 1 ≤ number → number ≤ 14 → Refusal buffer n row room number place
+  unread : fileOf buffer n ≡ refused number place → Read number → Refusal buffer n row room number place
   unnamed : (file : File) → fileOf buffer n ≡ fine file → trackAt file row ≡ none → number ≡ 16 → place ≡ 0 → Refusal buffer n row room number place
   unordered : (file : File) (track : Track) → fileOf buffer n ≡ fine file → trackAt file row ≡ some track → track .phrases ≡ true
       → orderList (track .entries) ≡ none → number ≡ 17 → place ≡ track .header → Refusal buffer n row room number place
@@ -139,7 +139,7 @@ module _ (buffer : List ℕ) (n row room : ℕ) where
 
   pub refused-so : (number place : ℕ) → Refusal buffer n row room number place → flattenOf buffer n row room ≡ refused number place
   unfolding flattenOf performed named ordered _>>=_
-  refused-so number place (unread e low high) = rw e
+  refused-so number place (unread e numbered) = rw e
   refused-so number place (unnamed file e t a b) = rw (e, t, a, b)
   refused-so number place (unordered file track e t p l a b) = rw (e, t, no-order track p l, a, b)
   refused-so number place (overlong performance e long a b) = refused-long performance e long ∙ ap₂ (λ (m p : ℕ). refused m p) (sym a) (sym b)
@@ -148,7 +148,7 @@ module _ (buffer : List ℕ) (n row room : ℕ) where
   unfolding performed
   not-performed number place e =
       elim (bind-was (fileOf buffer n) _ number place e) [
-        | inl f ↦ let numbers = file-refused buffer n number place f in unread f (numbers .0) (numbers .1)
+        | inl f ↦ unread f (file-refused buffer n number place f)
         | inr f ↦
             elim (bind-was (named (trackAt (f .0) row)) _ number place (f .2)) [
               | inl t ↦ let w = named-was (trackAt (f .0) row) number place t in unnamed (f .0) (f .1) (w .0) (w .1) (w .2)

@@ -1,16 +1,15 @@
--- The table of refusals: a file is refused with a number from 1 to 14 and no other, so that the numbers of the operations that go on from
--- there (16, 17, 18) say by themselves what is wrong.
+-- The table of refusals: a file is refused with a number from 1 to 14 or, for what is wrong with an item, from 20 to 23, and no other; so the
+-- numbers of the operations that go on from there (16, 17, 18) say by themselves what is wrong.
 use Prim.Native.Nat.{ℕ, zero, suc, _+_, _≤_}
 use mathlib.Core.Bool.{Bool, true, false}
 use mathlib.Core.List.{List, [], _∷_}
+use mathlib.Core.Logic.{_⊎_, inl, inr}
 use mathlib.Core.Option.{Option, none, some}
 use mathlib.Core.Path.{_≡_, subst}
 use lib.ListN.{length, take}
 use native.Mathlib.Omega.{arith}
 use Rattle.model.specs.Words.{if_then_else_, Checked, Checked.fine, Checked.refused, _>>=_, _>>_, passed, countedFrom, each, allPass, Walk, Walk.over, Walk.broken, Walk._then_, Step, Step.met, Step.stuck, onward, walkFrom, walkTo, inTurn, Placed}
-use Rattle.model.specs.Item.{Item, withEvent, withDuration, itemAt, itemMet, itemStep, notAfterEndMark, bodyOf, messageMet, setupStep, setupMessageAt, setupOf}
-use Rattle.model.specs.Event.{eventAt}
-use Rattle.model.specs.Duration.{durationAt}
+use Rattle.model.specs.Item.{Item, itemAt, itemMet, itemStep, markIsLast, bodyOf, messageMet, setupStep, setupMessageAt, setupOf}
 use Rattle.model.specs.Chunk.{Chunk, readChunk, chunkMet, chunkStep, allowedOnce, chunkList}
 use Rattle.model.specs.Seek.{Entry, Entry.start, Entry.stop, Entry.phrase, Entry.order, entryAt, followed, entryMet, entryStep, inOrder, seekOf}
 use Rattle.model.specs.Points.{pointsHold, lettersNamed, lettersHold, orderHolds}
@@ -18,8 +17,6 @@ use Rattle.model.specs.Track.{scoreVoice, pcmVoice, voiceOf, fixedHolds, requir
 use Rattle.model.specs.File.{frameOf, opened, topOf, contentsOf, fileOf}
 use Rattle.model.specs.declared.Voice.{Voice}
 use Rattle.model.specs.declared.Event.{Event}
-use Rattle.model.specs.declared.ReadDuration.{ReadDuration}
-use Rattle.model.specs.declared.ReadDuration.the-variants as duration
 use Rattle.model.specs.declared.ReadEvent.{ReadEvent}
 use Rattle.model.specs.declared.ReadEvent.the-variants as event
 use Rattle.model.specs.declared.ReadItem.{ReadItem}
@@ -29,10 +26,11 @@ use Rattle.model.specs.declared.ReadChunk.the-variants as chunk
 use Rattle.model.specs.declared.ReadEntry.{ReadEntry}
 use Rattle.model.specs.declared.ReadEntry.the-variants as entry
 use Rattle.model.proofs.Tests.{if-all}
+use Rattle.items.proofs.Ahead.{ItemAhead, item-ahead}
 
 -- refused, if at all, with a number of reading
-abbrev Read : ℕ → Type 0
-Read number = (1 ≤ number) × (number ≤ 14)
+abbrev pub Read : ℕ → Type 0
+Read number = ((1 ≤ number) × (number ≤ 14)) ⊎ ((20 ≤ number) × (number ≤ 23))
 
 abbrev Low : {A : Type 0} → Checked A → Type 0
 Low (fine a) = Unit
@@ -103,70 +101,55 @@ module _ {A : Type 0} where
   unfolding walkTo
   low-list number end from step check r s l = low-turns check [] _ (low-walk number end step (suc end) from r s) l
 
--- 11: BODIES
+-- 11, 20 TO 23: BODIES
 
-abbrev LowItem : ReadItem → Type 0
-LowItem (item.Timed value what next) = Unit
-LowItem (item.EndMark next) = Unit
-LowItem (item.Refused number place) = Read number
-
-event-low : (at value : ℕ) (r : ReadEvent) → LowItem (withEvent at value r)
-unfolding withEvent
-event-low at value (event.Is what next) = tt
-event-low at value event.Refused = omega arith
-
-duration-low : (voice : Voice) (s : List ℕ) (at : ℕ) (r : ReadDuration) → LowItem (withDuration voice s at r)
-unfolding withDuration
-duration-low voice s at (duration.Is value next) = event-low at value (eventAt voice s next)
-duration-low voice s at duration.Refused = omega arith
-
-met-low : (at : ℕ) (r : ReadItem) → LowItem r → LowStep (itemMet at r)
+met-low : (at end : ℕ) (r : ReadItem) → ItemAhead at end r → LowStep (itemMet at r)
 unfolding itemMet
-met-low at (item.Timed value what next) l = tt
-met-low at (item.EndMark next) l = tt
-met-low at (item.Refused number place) l = l
+met-low at end (item.Timed value what next) a = tt
+met-low at end (item.EndMark next) a = tt
+met-low at end (item.Refused number place) a = inr (omega arith)
 
 item-low : (voice : Voice) (s : List ℕ) (at : ℕ) → LowStep (itemStep voice s at)
-unfolding itemStep itemAt
-item-low voice s at = met-low at (itemAt voice s at) (if-all LowItem _ _ _ (λ h. tt) (λ h. duration-low voice s at (durationAt s at)))
+unfolding itemStep
+item-low voice s at = met-low at (length s) (itemAt voice s at) (item-ahead voice s at)
 
 body-low : (voice : Voice) (s : List ℕ) → Low (bodyOf voice s)
-unfolding bodyOf notAfterEndMark
+unfolding bodyOf markIsLast
 body-low voice s =
-    low-test _ 11 0 _ (omega arith)
-    (low-list 11 (length s) 0 (itemStep voice s) notAfterEndMark (omega arith) (item-low voice s) (λ before one. low-test _ 11 _ passed (omega arith) tt))
+    low-test _ 11 0 _ (inl (omega arith))
+    (low-list 11 (length s) 0 (itemStep voice s) (markIsLast (length s)) (inl (omega arith)) (item-low voice s) (λ before one. low-test _ 11 _ passed (inl (omega arith)) tt))
 
 -- 10: SETUPS
 
 message-low : (at : ℕ) (r : ReadEvent) → LowStep (messageMet at r)
 unfolding messageMet
 message-low at (event.Is what next) = tt
-message-low at event.Refused = omega arith
+message-low at (event.Refused number place) = inl (omega arith)
 
 setup-low : (s : List ℕ) → Low (setupOf s)
 unfolding setupOf setupStep
 setup-low s =
-    low-test _ 10 0 _ (omega arith)
-    (low-list 10 (length s) 0 (setupStep s) _ (omega arith) (λ at. message-low at (setupMessageAt s at)) (λ before one. tt))
+    low-test _ 10 0 _ (inl (omega arith))
+    (low-list 10 (length s) 0 (setupStep s) _ (inl (omega arith)) (λ at. message-low at (setupMessageAt s at)) (λ before one. tt))
 
 -- 4, 9, 6: CHUNK LISTS
 
 chunk-low : (at : ℕ) (r : ReadChunk) → LowStep (chunkMet at r)
 unfolding chunkMet
 chunk-low at (chunk.Is id size next) = tt
-chunk-low at chunk.Cut = omega arith
+chunk-low at chunk.Cut = inl (omega arith)
 
 list-low : (allowed : ℕ → Bool) (s : List ℕ) (from end : ℕ) → Low (chunkList allowed s from end)
 unfolding chunkList chunkStep allowedOnce
 list-low allowed s from end =
-    low-list 4 end from (chunkStep s end) (allowedOnce allowed) (omega arith) (λ at. chunk-low at (readChunk s end at))
-    (λ before one. low-test _ 9 _ _ (omega arith) (low-test _ 6 _ passed (omega arith) tt))
+    low-list 4 end from (chunkStep s end) (allowedOnce allowed) (inl (omega arith)) (λ at. chunk-low at (readChunk s end at))
+    (λ before one. low-test _ 9 _ _ (inl (omega arith)) (low-test _ 6 _ passed (inl (omega arith)) tt))
 
 -- 12, 13, 14: SEEK BODIES
 
 followed-low : (s : List ℕ) (at next : ℕ) (one : Entry) → LowStep (followed s at next one)
 unfolding followed
-followed-low s at next one = if-all LowStep _ _ _ (λ h. tt) (λ h. if-all LowStep _ _ _ (λ k. tt) (λ k. omega arith))
+followed-low s at next one = if-all LowStep _ _ _ (λ h. tt) (λ h. if-all LowStep _ _ _ (λ k. tt) (λ k. inl (omega arith)))
 
 entry-low : (s : List ℕ) (at : ℕ) (r : ReadEntry) → LowStep (entryMet s at r)
 unfolding entryMet
@@ -174,23 +157,23 @@ entry-low s at (entry.Start value next) = followed-low s at next _
 entry-low s at (entry.Stop value next) = followed-low s at next _
 entry-low s at (entry.Phrase letter from to next) = followed-low s at next _
 entry-low s at (entry.Order letters next) = followed-low s at next _
-entry-low s at entry.Refused = omega arith
+entry-low s at entry.Refused = inl (omega arith)
 
 form-low : (width : ℕ) (s : List ℕ) → Low (seekOf width s)
 unfolding seekOf entryStep inOrder
 form-low width s =
-    low-test _ 12 0 _ (omega arith)
-    (low-list 12 (length s) 0 (entryStep width s) inOrder (omega arith) (λ at. entry-low s at (entryAt width s at))
-    (λ before one. low-test _ 12 _ _ (omega arith) (low-test _ 12 _ passed (omega arith) tt)))
+    low-test _ 12 0 _ (inl (omega arith))
+    (low-list 12 (length s) 0 (entryStep width s) inOrder (inl (omega arith)) (λ at. entry-low s at (entryAt width s at))
+    (λ before one. low-test _ 12 _ _ (inl (omega arith)) (low-test _ 12 _ passed (inl (omega arith)) tt)))
 
 holds-low : (address point : ℕ → Bool) (entries : List (Placed Entry)) → Low (pointsHold address point entries)
 unfolding pointsHold
-holds-low address point entries = low-all _ entries (λ one. if-all Low _ _ _ (λ h. tt) (λ h. omega arith))
+holds-low address point entries = low-all _ entries (λ one. if-all Low _ _ _ (λ h. tt) (λ h. inl (omega arith)))
 
 named-low : (entries : List (Placed Entry)) (at : ℕ) (letters : List ℕ) → Low (lettersNamed entries at letters)
 unfolding lettersNamed
 named-low entries at [] = tt
-named-low entries at (letter ∷ letters) = if-all Low _ _ _ (λ h. named-low entries (at + 1) letters) (λ h. omega arith)
+named-low entries at (letter ∷ letters) = if-all Low _ _ _ (λ h. named-low entries (at + 1) letters) (λ h. inl (omega arith))
 
 letters-low : (entries : List (Placed Entry)) (at : ℕ) (one : Entry) → Low (lettersHold entries at one)
 unfolding lettersHold
@@ -214,11 +197,11 @@ seek-low phrases items size s none = tt
 seek-low phrases items size s (some one) =
     low-counted _ _ (low-bind _ _ (form-low _ _) (λ entries. low-then _ _ (points-low phrases items size entries) tt))
 
--- 8 TO 14: TRACKS
+-- 8 TO 14, 20 TO 23: TRACKS
 
 required-low : (header : ℕ) (o : Option Chunk) → Low (required header o)
 unfolding required
-required-low header none = omega arith
+required-low header none = inl (omega arith)
 required-low header (some one) = tt
 
 setups-low : (s : List ℕ) (o : Option Chunk) → Low (setupHolds s o)
@@ -229,7 +212,7 @@ setups-low s (some one) = low-then _ _ (low-counted _ _ (setup-low _)) tt
 fixed-low : (voice : Voice) (s : List ℕ) (one : Chunk) → Low (fixedHolds voice s one)
 unfolding fixedHolds
 fixed-low voice s one =
-    low-test _ 8 _ _ (omega arith) (low-test _ 8 _ _ (omega arith) (low-test _ 8 _ _ (omega arith) (low-test _ 8 _ passed (omega arith) tt)))
+    low-test _ 8 _ _ (inl (omega arith)) (low-test _ 8 _ _ (inl (omega arith)) (low-test _ 8 _ _ (inl (omega arith)) (low-test _ 8 _ passed (inl (omega arith)) tt)))
 
 track-low : (s : List ℕ) (voice : Voice) (one : Chunk) → Low (trackOf s voice one)
 unfolding trackOf
@@ -237,18 +220,18 @@ track-low s voice one =
     low-then _ _ (fixed-low voice s one)
     (low-bind _ _ (list-low _ s _ _)
     (λ parts. low-bind _ _ (required-low _ _)
-    (λ sequence. low-then _ _ (if-all Low _ _ _ (λ h. tt) (λ h. omega arith))
+    (λ sequence. low-then _ _ (if-all Low _ _ _ (λ h. tt) (λ h. inl (omega arith)))
     (low-then _ _ (setups-low s _)
     (low-bind _ _ (low-counted _ _ (body-low voice _))
     (λ items. low-bind _ _ (seek-low _ items _ s _) (λ entries. tt)))))))
 
--- 1 TO 14: FILES
+-- ALL OF THEM: FILES
 
 voice-low : (s : List ℕ) (one : Chunk) → Low (voiceOf s one)
 unfolding voiceOf scoreVoice pcmVoice
 voice-low s one =
-    if-all Low _ _ _ (λ h. low-test _ 8 _ _ (omega arith) (if-all Low _ _ _ (λ k. tt) (λ k. tt)))
-    (λ h. if-all Low _ _ _ (λ k. low-test _ 8 _ _ (omega arith) tt) (λ k. tt))
+    if-all Low _ _ _ (λ h. low-test _ 8 _ _ (inl (omega arith)) (if-all Low _ _ _ (λ k. tt) (λ k. tt)))
+    (λ h. if-all Low _ _ _ (λ k. low-test _ 8 _ _ (inl (omega arith)) tt) (λ k. tt))
 
 opened-low : (s : List ℕ) (one : Chunk) (voice : Option Voice) → Low (opened s one voice)
 unfolding opened
@@ -262,15 +245,15 @@ top-low s one = low-bind _ _ (voice-low s one) (λ voice. opened-low s one voice
 frame-low : (s : List ℕ) → Low (frameOf s)
 unfolding frameOf
 frame-low s =
-    low-then _ _ (low-test _ 2 0 passed (omega arith) tt)
-    (low-then _ _ (if-all Low _ _ _ (λ h. tt) (λ h. omega arith))
+    low-then _ _ (low-test _ 2 0 passed (inl (omega arith)) tt)
+    (low-then _ _ (if-all Low _ _ _ (λ h. tt) (λ h. inl (omega arith)))
     (low-bind _ _ (list-low _ s _ _)
-    (λ chunks. low-then _ _ (if-all Low _ _ _ (λ h. tt) (λ h. omega arith)) (low-then _ _ (if-all Low _ _ _ (λ h. tt) (λ h. omega arith)) tt))))
+    (λ chunks. low-then _ _ (if-all Low _ _ _ (λ h. tt) (λ h. inl (omega arith))) (low-then _ _ (if-all Low _ _ _ (λ h. tt) (λ h. inl (omega arith))) tt))))
 
 contents-low : (s : List ℕ) → Low (contentsOf s)
 unfolding contentsOf
 contents-low s = low-bind _ _ (frame-low s) (λ chunks. low-bind _ _ (low-each (topOf s) chunks (top-low s)) (λ tops. tt))
 
-pub file-refused : (buffer : List ℕ) (n number place : ℕ) → fileOf buffer n ≡ refused number place → (1 ≤ number) × (number ≤ 14)
+pub file-refused : (buffer : List ℕ) (n number place : ℕ) → fileOf buffer n ≡ refused number place → Read number
 unfolding fileOf
-file-refused buffer n number place e = subst Low e (low-then _ _ (low-test _ 1 0 passed (omega arith) tt) (contents-low (take n buffer)))
+file-refused buffer n number place e = subst Low e (low-then _ _ (low-test _ 1 0 passed (inl (omega arith)) tt) (contents-low (take n buffer)))

@@ -1,6 +1,6 @@
 -- `items::event::read_sound` meets its contract.
-use Rattle.model.proofs.Tests.{tests}
 use Rattle.items.proofs.Matches.{matches}
+use Rattle.model.proofs.Tests.{tests}
 use Rattle.model.specs.Event.{soundAt}
 use borrow.Author.Needs.{needs}
 use Rattle.items.proofs.event.read_sound.Statement.{statement}
@@ -23,6 +23,7 @@ read-sound-spec =
     tie.close
     (tie.spec
     (λ c. search needs)
+    (λ c κs. search needs)
     (λ c κs. search needs)
     returns
     (λ c. search needs)

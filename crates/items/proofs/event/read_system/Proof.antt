@@ -26,6 +26,7 @@ read-system-spec =
     tie.close
     (tie.spec
     (λ c. search needs)
+    (λ c κs. search needs)
     returns
     (λ c. search needs)
     (λ c. search needs)
@@ -34,4 +35,5 @@ read-system-spec =
     (λ c κs. search needs)
     returns-3
     (λ c. search needs)
+    (λ c κs. search needs)
     returns-4)
