@@ -6,7 +6,7 @@ use mathlib.Core.Path.{_≡_, refl}
 use lib.ListN.{length}
 use native.Mathlib.Omega.{arith}
 use borrow.Author.Tests.{lt-leb}
-use Rattle.model.specs.Words.{if_then_else_, _and_, _or_, _≡?_}
+use Rattle.model.specs.Words.{if_then_else_, _and_, _or_, _≤?_, _≡?_}
 use Rattle.model.specs.Bytes.{_!_}
 use Rattle.model.specs.Event.{hasKind, isShift, isValue, longKind, shortKind, longAt, shortAt, formed, controlAt}
 use Rattle.model.specs.declared.Voice.{Voice}
@@ -21,10 +21,11 @@ abbrev pub eventSeen : ReadEvent → Seen
 eventSeen (Is what next) = ends next
 eventSeen (Refused number place) = fails number place
 
-has-expression : (voice : Voice) → hasKind voice 10 ≡ true
-unfolding hasKind _and_
-has-expression Score = refl
-has-expression Pcm = refl
+-- a kind that both voices have
+pub shared-kind : (voice : Voice) (kind : ℕ) → ((7 ≤? kind) and not (kind ≡? 11)) ≡ true → hasKind voice kind ≡ true
+unfolding hasKind
+shared-kind Score kind h = refl
+shared-kind Pcm kind h = h
 
 zero-is-value : (kind : ℕ) → isValue kind 0 ≡ true
 unfolding isValue isShift _or_
@@ -33,7 +34,7 @@ zero-is-value kind =
 
 module _ (voice : Voice) (s : List ℕ) (at : ℕ) where
   control-mended : at + 1 ≤ length s → Mended eventSeen s (λ t. controlAt voice t at) (at + 1)
-  unfolding controlAt formed longAt isValue if_then_else_
+  unfolding controlAt formed longAt isValue if_then_else_ _and_
   control-mended within =
       record {
         rest = 0x3B ∷ 0x00 ∷ [];
@@ -44,7 +45,7 @@ module _ (voice : Voice) (s : List ℕ) (at : ℕ) where
             let second : t ! (at + 1) ≡ 0x3B = c .then-byte (at + 1) 0 (omega arith) (omega arith) in
             let third : t ! (at + 2) ≡ 0x00 = c .then-byte (at + 2) 1 (omega arith) (omega arith) in
             let next : at + 3 ≡ at + 1 + 2 = omega arith in
-            simp (lt-leb, second, third, has-expression, next);
+            simp (lt-leb, second, third, shared-kind voice 10 refl, next);
       }
 
   value-mended : at + 1 < length s → (s ! (at + 1) / 16 % 4 ≡? 3) ≡ true → (longKind (s ! (at + 1) % 16) ≡? 0) ≡ false

@@ -22,7 +22,6 @@ pub data Seen : Type 0 where
 -- the byte at a place cannot stand
 pub record Wrong {R : Type 0} (s : List ℕ) (read : List ℕ → R) (r : R) (number place : ℕ) : Type 0 where
   pub low : 21 ≤ number
-  pub high : number ≤ 23
   pub within : place < length s
   pub stays : (t : List ℕ) → Agree (place + 1) s t → read t ≡ r
 
@@ -32,7 +31,7 @@ Cause s read r number place = ((number ≡ 20) × (place ≡ length s)) ⊎ Wron
 pub cause-as : {R Q : Type 0} (s : List ℕ) (read : List ℕ → R) (other : List ℕ → Q) (r : R) (q : Q) (number place : ℕ)
     → ((t : List ℕ) → Agree (place + 1) s t → read t ≡ r → other t ≡ q) → Cause s read r number place → Cause s other q number place
 cause-as s read other r q number place alike =
-    ⊎-map (λ c. c) (λ w. record { low = w .low; high = w .high; within = w .within; stays = λ t a. alike t a (w .stays t a) })
+    ⊎-map (λ c. c) (λ w. record { low = w .low; within = w .within; stays = λ t a. alike t a (w .stays t a) })
 
 -- What is read is what a whole definition comes to where the first bytes of s stand.
 module _ {R : Type 0} (seen : R → Seen) (s : List ℕ) (whole : List ℕ → R) where
@@ -64,10 +63,10 @@ module _ {R : Type 0} (seen : R → Seen) (s : List ℕ) (whole : List ℕ → R
   exact-ends {r} {next} least e h = is-exact (λ t. r) least r (ends next) refl e (h, λ t a. refl)
 
   pub exact-wrong : {r : R} {number place : ℕ} (least : ℕ) → seen r ≡ fails number place → Mended place
-      → (least ≤ place) × (21 ≤ number) × (number ≤ 23) × (place < length s) → Exact (λ t. r) least
+      → (least ≤ place) × (21 ≤ number) × (place < length s) → Exact (λ t. r) least
   exact-wrong {r} {number} {place} least e m h =
       is-exact (λ t. r) least r (fails number place) refl e
-      (record { past = h .0; cause = inr (record { low = h .1; high = h .2; within = h .3; stays = λ t a. refl }); mended = m })
+      (record { past = h .0; cause = inr (record { low = h .1; within = h .2; stays = λ t a. refl }); mended = m })
 
   -- what reads alike where so many bytes are the same
   pub exact-as : (read other : List ℕ → R) (fewer least count : ℕ) → (fewer ≤ least) × (count ≤ least + 1) × (count ≤ length s)
