@@ -39,10 +39,14 @@ pub fn count(operations: &[Operation], cases: u64, seed: u64) -> BTreeMap<Option
 
 /// Cases in which each cell of the table of faults is met that often, and how
 /// many of them were refused for it, by clause.
-pub fn count_faults(each: u64, seed: u64) -> BTreeMap<Option<Clause>, u64> {
+pub fn count_faults(
+    operations: &[Operation],
+    each: u64,
+    seed: u64,
+) -> BTreeMap<Option<Clause>, u64> {
     let mut counts = BTreeMap::new();
     for number in 0..each * cells().len() as u64 {
-        let (case, cell) = fault_case(seed, number);
+        let (case, cell) = fault_case(operations, seed, number);
         let refused = case.answer().err().map(|refusal| refusal.clause);
         if refused == Some(cell.clause) {
             *counts.entry(refused).or_insert(0) += 1;

@@ -11,7 +11,8 @@ use std::process::ExitCode;
 
 const USAGE: &str = "usage: second list FILE | tune | tunes FOLDER | answer | \
 generate OPERATIONS COUNT SEED | generate-all-pitches | \
-generate-many-chunks ROWS | generate-faults EACH SEED | faults EACH SEED | \
+generate-many-chunks ROWS | generate-faults OPERATIONS EACH SEED | \
+faults OPERATIONS EACH SEED | \
 compare CASES ANSWERS [DIFFERENCE] | clauses OPERATIONS COUNT SEED | soak COUNT SEED";
 
 type Outcome = Result<ExitCode, String>;
@@ -27,8 +28,8 @@ fn main() -> ExitCode {
         ["generate", letters, count, seed] => write_cases(letters, count, seed),
         ["generate-many-chunks", rows] => write_many_chunks(rows),
         ["generate-all-pitches"] => put_cases(generate::all_pitches()),
-        ["generate-faults", each, seed] => write_faults(each, seed),
-        ["faults", each, seed] => count_faults(each, seed),
+        ["generate-faults", letters, each, seed] => write_faults(letters, each, seed),
+        ["faults", letters, each, seed] => count_faults(letters, each, seed),
         ["compare", cases, answers] => compare_files(cases, answers, "difference.case"),
         ["compare", cases, answers, difference] => compare_files(cases, answers, difference),
         ["clauses", letters, count, seed] => count_clauses(letters, count, seed),
@@ -114,15 +115,15 @@ fn write_cases(letters: &str, count: &str, seed: &str) -> Outcome {
 }
 
 /// Each cell of the table of faults that often.
-fn write_faults(each: &str, seed: &str) -> Outcome {
-    let (each, seed) = (number(each)?, number(seed)?);
+fn write_faults(letters: &str, each: &str, seed: &str) -> Outcome {
+    let (operations, each, seed) = (operations(letters)?, number(each)?, number(seed)?);
     let count = each * cells().len() as u64;
-    put_cases((0..count).map(|index| fault_case(seed, index).0))
+    put_cases((0..count).map(|index| fault_case(&operations, seed, index).0))
 }
 
-fn count_faults(each: &str, seed: &str) -> Outcome {
-    let (each, seed) = (number(each)?, number(seed)?);
-    let counts = clauses::count_faults(each, seed);
+fn count_faults(letters: &str, each: &str, seed: &str) -> Outcome {
+    let (operations, each, seed) = (operations(letters)?, number(each)?, number(seed)?);
+    let counts = clauses::count_faults(&operations, each, seed);
     put(clauses::fault_table(&counts).as_bytes())?;
     match counts.values().sum::<u64>() == each * cells().len() as u64 {
         true => Ok(ExitCode::SUCCESS),

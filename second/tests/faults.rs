@@ -3,6 +3,7 @@
 
 mod shared;
 
+use second::case::Operation;
 use second::generate::fault::{cells, fault_case, is_cut, put_fault, Position};
 use second::generate::sequence::SequencePlan;
 use second::item::{read_sequence, Voice};
@@ -146,8 +147,9 @@ fn generated_faults_stand_where_they_were_put() {
 
 #[test]
 fn generated_cases_are_refused_for_their_faults() {
+    let operations = [Operation::Read, Operation::Play, Operation::Flatten, Operation::Listing];
     for number in 0..4_000 {
-        let (case, cell) = fault_case(6, number);
+        let (case, cell) = fault_case(&operations, 6, number);
         assert_eq!(case.answer().unwrap_err().clause, cell.clause, "case {number}");
     }
 }

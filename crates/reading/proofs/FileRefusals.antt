@@ -1,14 +1,14 @@
 -- The table of refusals: a file is refused with a number from 1 to 14 or, for what is wrong with an item, from 20 to 23, and no other; so the
 -- numbers of the operations that go on from there (16, 17, 18) say by themselves what is wrong.
-use Prim.Native.Nat.{ℕ, zero, suc, _+_, _≤_}
+use Prim.Native.Nat.{ℕ, suc, _+_, _≤_}
 use mathlib.Core.Bool.{Bool, true, false}
 use mathlib.Core.List.{List, [], _∷_}
 use mathlib.Core.Logic.{_⊎_, inl, inr}
 use mathlib.Core.Option.{Option, none, some}
-use mathlib.Core.Path.{_≡_, subst}
+use mathlib.Core.Path.{_≡_, refl, subst}
 use lib.ListN.{length, take}
 use native.Mathlib.Omega.{arith}
-use Rattle.model.specs.Words.{if_then_else_, Checked, Checked.fine, Checked.refused, _>>=_, _>>_, passed, countedFrom, each, allPass, Walk, Walk.over, Walk.broken, Walk._then_, Step, Step.met, Step.stuck, onward, walkFrom, walkTo, inTurn, Placed}
+use Rattle.model.specs.Words.{if_then_else_, Checked, Checked.fine, Checked.refused, _>>=_, _>>_, passed, countedFrom, each, allPass, Step, Step.met, Step.stuck, walkTo, inTurn, Placed}
 use Rattle.model.specs.Item.{Item, itemAt, itemMet, itemStep, markIsLast, bodyOf, messageMet, setupStep, setupMessageAt, setupOf}
 use Rattle.model.specs.Chunk.{Chunk, readChunk, chunkMet, chunkStep, allowedOnce, chunkList}
 use Rattle.model.specs.Seek.{Entry, Entry.start, Entry.stop, Entry.phrase, Entry.order, entryAt, followed, entryMet, entryStep, inOrder, seekOf}
@@ -26,6 +26,7 @@ use Rattle.model.specs.declared.ReadChunk.the-variants as chunk
 use Rattle.model.specs.declared.ReadEntry.{ReadEntry}
 use Rattle.model.specs.declared.ReadEntry.the-variants as entry
 use Rattle.model.proofs.Tests.{if-all}
+use Rattle.model.proofs.Walks.{refused-tells}
 use Rattle.items.proofs.Ahead.{ItemAhead, item-ahead}
 
 -- refused, if at all, with a number of reading
@@ -39,11 +40,6 @@ Low (refused number place) = Read number
 abbrev LowStep : {A : Type 0} → Step A → Type 0
 LowStep (met a next) = Unit
 LowStep (stuck number place) = Read number
-
-abbrev LowWalk : {A : Type 0} → Walk A → Type 0
-LowWalk over = Unit
-LowWalk (broken number place) = Read number
-LowWalk (a then rest) = LowWalk rest
 
 -- ONE CHECK AFTER THE OTHER
 
@@ -77,29 +73,20 @@ module _ {A : Type 0} where
   low-all check [] l = tt
   low-all check (a ∷ list) l = low-then (check a) (allPass check list) (l a) (low-all check list l)
 
-  low-onward : (step : Step A) (go : ℕ → Walk A) → LowStep step → ((n : ℕ) → LowWalk (go n)) → LowWalk (onward step go)
-  unfolding onward
-  low-onward (met a next) go l m = m next
-  low-onward (stuck number place) go l m = l
+  low-as-told : (c : Checked A) → ((number place : ℕ) → c ≡ refused number place → Read number) → Low c
+  low-as-told (fine a) told = tt
+  low-as-told (refused number place) told = told number place refl
 
-  low-walk : (number end : ℕ) (step : ℕ → Step A) (turns at : ℕ) → Read number → ((n : ℕ) → LowStep (step n)) → LowWalk (walkFrom number end step turns at)
-  unfolding walkFrom
-  low-walk number end step zero at r l = r
-  low-walk number end step (suc turns) at r l =
-      if-all LowWalk _ _ _ (λ h. tt) (λ h. low-onward (step at) _ (l at) (λ n. low-walk number end step turns n r l))
-
-  low-turns : (check : List A → A → Checked (Unit {0})) (before : List A) (walk : Walk A) → LowWalk walk → ((l : List A) (a : A) → Low (check l a))
-      → Low (inTurn check before walk)
-  unfolding inTurn
-  low-turns check before over w l = tt
-  low-turns check before (broken number place) w l = w
-  low-turns check before (a then rest) w l =
-      low-then (check before a) _ (l before a) (low-bind (inTurn check (a ∷ before) rest) _ (low-turns check (a ∷ before) rest w l) (λ found. tt))
-
-  low-list : (number end from : ℕ) (step : ℕ → Step A) (check : List A → A → Checked (Unit {0})) → Read number → ((n : ℕ) → LowStep (step n))
-      → ((l : List A) (a : A) → Low (check l a)) → Low (inTurn check [] (walkTo number end step from))
-  unfolding walkTo
-  low-list number end from step check r s l = low-turns check [] _ (low-walk number end step (suc end) from r s) l
+low-list : {A : Type 0} (number end from : ℕ) (step : ℕ → Step A) (check : List A → A → Checked (Unit {0})) → Read number → ((n : ℕ) → LowStep (step n))
+    → ((l : List A) (a : A) → Low (check l a)) → Low (inTurn check [] (walkTo number end step from))
+unfolding walkTo
+low-list number end from step check r s l =
+    low-as-told _
+    (λ n place e.
+    refused-tells number end step check (λ (at : ℕ). Unit) (λ (m there : ℕ). Read m) (λ at next a before h is q. tt) (λ at h. r)
+    (λ at m there h here is. subst LowStep is (s at))
+    (λ at next m there a before h is q. subst Low q (l before a))
+    (suc end) from [] n place tt e)
 
 -- 11, 20 TO 23: BODIES
 

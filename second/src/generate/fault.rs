@@ -112,9 +112,9 @@ fn add_later_fault(random: &mut Random, sequence: &mut SequencePlan, voice: Voic
     put_fault(random, sequence, cell);
 }
 
-/// The case with that number in a row that goes through all cells in turn, and
-/// its cell.
-pub fn fault_case(seed: u64, number: u64) -> (Case, Cell) {
+/// The case with that number in a row that goes through all cells in turn, once
+/// for each operation and so on, and its cell.
+pub fn fault_case(operations: &[Operation], seed: u64, number: u64) -> (Case, Cell) {
     let cells = cells();
     let count = cells.len() as u64;
     let cell = cells[(number % count) as usize];
@@ -126,8 +126,7 @@ pub fn fault_case(seed: u64, number: u64) -> (Case, Cell) {
         add_later_fault(&mut random, &mut track.sequence, cell.voice);
     }
     let file = plan.draft().bytes(&mut random);
-    let operations = [Operation::Read, Operation::Play, Operation::Flatten, Operation::Listing];
-    let operation = operations[(number / count % 4) as usize];
+    let operation = operations[(number / count) as usize % operations.len()];
     let stated = file.len() as u32;
     (Case { stated, ..call(&mut random, operation, file) }, cell)
 }
