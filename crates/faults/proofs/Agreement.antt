@@ -34,28 +34,22 @@ module _ (s : List ℕ) (place : ℕ) where
         then-byte = λ at i e h. c .then-byte at i e (omega arith) ∙ List·getD-append first second 0 i h;
       }
 
-  module _ (within : place ≤ length s) (rest : List ℕ) where
-    pub agrees : Agree place s (take place s ++ rest)
-    agrees =
-        let n = length-append (take place s) rest in
-        let m = length-take-le place s within in
-        record {
+  pub continues : place ≤ length s → (rest : List ℕ) → Continued s place rest (take place s ++ rest)
+  continues within rest =
+      let front = take place s in
+      let n = length-append front rest in
+      let m = length-take-le place s within in
+      record {
+        front = record {
           within = within;
           room = omega arith;
-          same = λ i h. List·getD-append (take place s) rest 0 i (omega arith) ∙ getD-take place s i 0 h;
-        }
-
-    pub continues : Continued s place rest (take place s ++ rest)
-    continues =
-        let n = length-append (take place s) rest in
-        let m = length-take-le place s within in
-        record {
-          front = agrees;
-          room = omega arith;
-          then-byte = λ at i e h.
-              let there : at ≡ length (take place s) + i = omega arith in
-              ap (λ (k : ℕ). (take place s ++ rest) ! k) there ∙ getD-append-add (take place s) rest i 0;
-        }
+          same = λ i h. List·getD-append front rest 0 i (omega arith) ∙ getD-take place s i 0 h;
+        };
+        room = omega arith;
+        then-byte = λ at i e h.
+            let there : at ≡ length front + i = omega arith in
+            ap (λ (k : ℕ). (front ++ rest) ! k) there ∙ getD-append-add front rest i 0;
+      }
 
 -- every one of some bytes is one
 abbrev pub AreBytes : List ℕ → Type 0

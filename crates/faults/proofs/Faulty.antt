@@ -17,7 +17,7 @@ use Rattle.model.specs.declared.Voice.{Voice}
 use Rattle.model.specs.declared.ReadItem.the-variants.{EndMark, Refused}
 use Rattle.model.proofs.Tests.{by-test, first-true, second-true}
 use Rattle.items.proofs.Ahead.{ItemAhead, item-ahead}
-use Rattle.faults.proofs.Agreement.{Agree, agree-fewer, Continued, agrees, continues, each-byte}
+use Rattle.faults.proofs.Agreement.{Agree, agree-fewer, Continued, continues, each-byte}
 use Rattle.faults.proofs.Exact.{Seen.ends, Wrong, Fault}
 use Rattle.faults.proofs.Timed.{itemSeen, timedAt}
 use Rattle.faults.proofs.Items.{zeros-refused, Zeros, zeros-read, ends-read, refused-or-zeros, refused-exact}
@@ -96,7 +96,7 @@ module _ (voice : Voice) (s : List ℕ) where
       zero-refused : itemAt voice zero-after (f .at) ≡ Refused number place → Beginning voice (take (place + 1) s) → ⊥
       zero-refused e b =
           let t = take (place + 1) s ++ b .rest in
-          let a : Agree (place + 1) s t = agrees s (place + 1) (omega (arith, w .within)) (b .rest) in
+          let a : Agree (place + 1) s t = continues s (place + 1) (omega (arith, w .within)) (b .rest) .front in
           go t a (b .accepted) (refused-or-zeros voice t (f .at) number place (w .stays t a))
         where
           go : (t : List ℕ) → Agree (place + 1) s t → isFine (bodyOf voice t) ≡ true → (itemAt voice t (f .at) ≡ Refused number place) ⊎ Zeros t (f .at) → ⊥
@@ -123,7 +123,7 @@ module _ (voice : Voice) (s : List ℕ) where
             let front = take (f .at) s in
             let within : f .at ≤ length s = omega (arith, f .here) in
             let long : length front ≡ f .at = length-take-le (f .at) s within in
-            let agreed : Agree (f .at) s front = subst (Agree (f .at) s) (append-nil front) (agrees s (f .at) within []) in
+            let agreed : Agree (f .at) s front = subst (Agree (f .at) s) (append-nil front) (continues s (f .at) within [] .front) in
             by-test (f .at ≡? 0) (first-true _ _)
             (λ h.
             let some : 0 < length front = omega (arith, eqb-false (f .at) 0 h) in
