@@ -1,7 +1,7 @@
 -- Bodies that AGREE on their first bytes, and one that goes on from the first bytes of another with bytes of its own.
 use Prim.Native.Nat.{ℕ, zero, suc, _+_, _<_, _≤_}
 use mathlib.Core.List.{List, [], _∷_, _++_}
-use mathlib.Core.Path.{_≡_, _∙_, ap}
+use mathlib.Core.Path.{_≡_, refl, _∙_, ap}
 use lib.ListN.{length, take, length-append, List·getD-append}
 use lib.Seq.{length-take-le, getD-take, getD-append-add}
 use native.Mathlib.Omega.{arith}
@@ -14,6 +14,9 @@ pub record Agree (count : ℕ) (s t : List ℕ) : Type 0 where
 
 pub agree-fewer : (fewer count : ℕ) (s t : List ℕ) → fewer ≤ count → Agree count s t → Agree fewer s t
 agree-fewer fewer count s t h a = record { within = omega arith; room = omega arith; same = λ i k. a .same i (omega arith) }
+
+pub agree-itself : (count : ℕ) (s : List ℕ) → count ≤ length s → Agree count s s
+agree-itself count s h = record { within = h; room = h; same = λ i k. refl }
 
 -- a body of so many bytes of s, then those of rest, and any others behind
 pub record Continued (s : List ℕ) (place : ℕ) (rest t : List ℕ) : Type 0 where
@@ -31,28 +34,22 @@ module _ (s : List ℕ) (place : ℕ) where
         then-byte = λ at i e h. c .then-byte at i e (omega arith) ∙ List·getD-append first second 0 i h;
       }
 
-  module _ (within : place ≤ length s) (rest : List ℕ) where
-    pub agrees : Agree place s (take place s ++ rest)
-    agrees =
-        let n = length-append (take place s) rest in
-        let m = length-take-le place s within in
-        record {
+  pub continues : place ≤ length s → (rest : List ℕ) → Continued s place rest (take place s ++ rest)
+  continues within rest =
+      let front = take place s in
+      let n = length-append front rest in
+      let m = length-take-le place s within in
+      record {
+        front = record {
           within = within;
           room = omega arith;
-          same = λ i h. List·getD-append (take place s) rest 0 i (omega arith) ∙ getD-take place s i 0 h;
-        }
-
-    pub continues : Continued s place rest (take place s ++ rest)
-    continues =
-        let n = length-append (take place s) rest in
-        let m = length-take-le place s within in
-        record {
-          front = agrees;
-          room = omega arith;
-          then-byte = λ at i e h.
-              let there : at ≡ length (take place s) + i = omega arith in
-              ap (λ (k : ℕ). (take place s ++ rest) ! k) there ∙ getD-append-add (take place s) rest i 0;
-        }
+          same = λ i h. List·getD-append front rest 0 i (omega arith) ∙ getD-take place s i 0 h;
+        };
+        room = omega arith;
+        then-byte = λ at i e h.
+            let there : at ≡ length front + i = omega arith in
+            ap (λ (k : ℕ). (front ++ rest) ! k) there ∙ getD-append-add front rest i 0;
+      }
 
 -- every one of some bytes is one
 abbrev pub AreBytes : List ℕ → Type 0

@@ -5,25 +5,27 @@ use mathlib.Core.List.{List, [], _∷_}
 use mathlib.Core.Path.{_≡_, refl}
 use lib.ListN.{length}
 use native.Mathlib.Omega.{arith}
-use borrow.Author.Tests.{lt-leb, leb-true, leb-false}
+use borrow.Author.Tests.{lt-leb}
 use Rattle.model.specs.Words.{if_then_else_, _and_, _or_, _≤?_, _≡?_}
 use Rattle.model.specs.Bytes.{_!_}
 use Rattle.model.specs.Event.{hasKind, isShift, isValue, longKind, shortKind, longAt, shortAt, formed, controlAt}
 use Rattle.model.specs.declared.Voice.{Voice}
 use Rattle.model.specs.declared.Voice.the-variants.{Score, Pcm}
+use Rattle.model.specs.declared.Event.the-variants.{Control}
 use Rattle.model.specs.declared.ReadEvent.{ReadEvent}
 use Rattle.model.specs.declared.ReadEvent.the-variants.{Is, Refused}
 use Rattle.model.proofs.Tests.{if-all}
-use Rattle.faults.proofs.Exact.{Seen, Seen.ends, Seen.fails, Mended, Exact, cut-here, wrong-here}
+use Rattle.faults.proofs.Exact.{Seen, Seen.ends, Seen.fails, Mended, Exact, exact-ends, exact-wrong, exact-if, exact-byte, mended-end}
 
 abbrev pub eventSeen : ReadEvent → Seen
 eventSeen (Is what next) = ends next
 eventSeen (Refused number place) = fails number place
 
-has-expression : (voice : Voice) → hasKind voice 10 ≡ true
-unfolding hasKind _and_
-has-expression Score = refl
-has-expression Pcm = refl
+-- a kind that both voices have
+pub shared-kind : (voice : Voice) (kind : ℕ) → ((7 ≤? kind) and not (kind ≡? 11)) ≡ true → hasKind voice kind ≡ true
+unfolding hasKind
+shared-kind Score kind h = refl
+shared-kind Pcm kind h = h
 
 zero-is-value : (kind : ℕ) → isValue kind 0 ≡ true
 unfolding isValue isShift _or_
@@ -32,7 +34,7 @@ zero-is-value kind =
 
 module _ (voice : Voice) (s : List ℕ) (at : ℕ) where
   control-mended : at + 1 ≤ length s → Mended eventSeen s (λ t. controlAt voice t at) (at + 1)
-  unfolding controlAt formed longAt isValue if_then_else_
+  unfolding controlAt formed longAt isValue if_then_else_ _and_
   control-mended within =
       record {
         rest = 0x3B ∷ 0x00 ∷ [];
@@ -43,87 +45,53 @@ module _ (voice : Voice) (s : List ℕ) (at : ℕ) where
             let second : t ! (at + 1) ≡ 0x3B = c .then-byte (at + 1) 0 (omega arith) (omega arith) in
             let third : t ! (at + 2) ≡ 0x00 = c .then-byte (at + 2) 1 (omega arith) (omega arith) in
             let next : at + 3 ≡ at + 1 + 2 = omega arith in
-            simp (lt-leb, second, third, has-expression, next);
+            simp (lt-leb, second, third, shared-kind voice 10 refl, next);
       }
 
-  module _ (room : at + 1 < length s) where
-    abbrev ControlExact : ReadEvent → Type 0
-    ControlExact = Exact eventSeen s (λ t. controlAt voice t at) (at + 1)
+  value-mended : at + 1 < length s → (s ! (at + 1) / 16 % 4 ≡? 3) ≡ true → (longKind (s ! (at + 1) % 16) ≡? 0) ≡ false
+      → not (hasKind voice (longKind (s ! (at + 1) % 16))) ≡ false → Mended eventSeen s (λ t. controlAt voice t at) (at + 2)
+  unfolding controlAt formed longAt if_then_else_
+  value-mended within long some has =
+      record {
+        rest = 0x00 ∷ [];
+        bytes = omega arith;
+        reads = λ t c.
+            let room : at + 1 < length t = omega arith in
+            let more : at + 2 < length t = omega arith in
+            let second = c .front .same (at + 1) (omega arith) in
+            let third : t ! (at + 2) ≡ 0x00 = c .then-byte (at + 2) 0 (omega arith) (omega arith) in
+            let next : at + 3 ≡ at + 2 + 1 = omega arith in
+            simp (lt-leb, second, third, long, some, has, zero-is-value, next);
+      }
 
-    -- a second byte that cannot stand
-    second-wrong : (number : ℕ) → 21 ≤ number → number ≤ 23
-        → ((t : List ℕ) → at + 1 < length t → t ! (at + 1) ≡ s ! (at + 1) → controlAt voice t at ≡ Refused number (at + 1)) → ControlExact (Refused number (at + 1))
-    second-wrong number low high stays =
-        wrong-here eventSeen s _ (at + 1) (at + 1) _ (omega arith) (control-mended (omega arith)) number low high room
-        (λ t a. stays t (omega arith) (a .same (at + 1) (omega arith)))
+  module _ (here : at + 1 ≤ length s) where
+    long-exact : at + 1 < length s → (s ! (at + 1) / 16 % 4 ≡? 3) ≡ true
+        → Exact eventSeen s (λ t. controlAt voice t at) (λ t. longAt voice t at (s ! (at + 1) / 64) (longKind (s ! (at + 1) % 16))) (at + 1)
+    unfolding longAt
+    long-exact room long =
+        exact-if eventSeen s _ (at + 1) (longKind (s ! (at + 1) % 16) ≡? 0) _ _ (λ h. exact-wrong eventSeen s _ (at + 1) refl (control-mended here) (omega arith))
+        (λ h. exact-if eventSeen s _ (at + 1) (not (hasKind voice (longKind (s ! (at + 1) % 16)))) _ _ (λ i. exact-wrong eventSeen s _ (at + 1) refl (control-mended here) (omega arith))
+        (λ i. exact-byte eventSeen s _ (Refused 20) (λ end. refl) (at + 1) (at + 2)
+        (λ value t.
+        if isValue (longKind (s ! (at + 1) % 16)) value then Is (Control (longKind (s ! (at + 1) % 16)) (s ! (at + 1) / 64) value) (at + 3) else
+        Refused 23 (at + 2))
+        (omega arith) (mended-end eventSeen s _ (at + 2) (omega arith) (value-mended room long h i))
+        (λ more. exact-if eventSeen s _ (at + 2) (isValue (longKind (s ! (at + 1) % 16)) (s ! (at + 2))) _ _
+        (λ k. exact-ends eventSeen s _ (at + 2) refl (omega arith))
+        (λ k. exact-wrong eventSeen s _ (at + 2) refl (value-mended room long h i) (omega arith)))))
 
-    module _ (long : (s ! (at + 1) / 16 % 4 ≡? 3) ≡ true) where
-      value-mended : (longKind (s ! (at + 1) % 16) ≡? 0) ≡ false → not (hasKind voice (longKind (s ! (at + 1) % 16))) ≡ false
-          → Mended eventSeen s (λ t. controlAt voice t at) (at + 2)
-      unfolding controlAt formed longAt if_then_else_
-      value-mended some has =
-          record {
-            rest = 0x00 ∷ [];
-            bytes = omega arith;
-            reads = λ t c.
-                let room : at + 1 < length t = omega arith in
-                let more : at + 2 < length t = omega arith in
-                let second = c .front .same (at + 1) (omega arith) in
-                let third : t ! (at + 2) ≡ 0x00 = c .then-byte (at + 2) 0 (omega arith) (omega arith) in
-                let next : at + 3 ≡ at + 2 + 1 = omega arith in
-                simp (lt-leb, second, third, long, some, has, zero-is-value, next);
-          }
+    short-exact : at + 1 < length s
+        → Exact eventSeen s (λ t. controlAt voice t at) (λ t. shortAt voice at (s ! (at + 1) / 64) (shortKind (s ! (at + 1) / 16 % 4)) (s ! (at + 1) % 16)) (at + 1)
+    unfolding shortAt
+    short-exact room =
+        exact-if eventSeen s _ (at + 1) (not (hasKind voice (shortKind (s ! (at + 1) / 16 % 4)))) _ _ (λ h. exact-wrong eventSeen s _ (at + 1) refl (control-mended here) (omega arith))
+        (λ h. exact-if eventSeen s _ (at + 1) (s ! (at + 1) % 16 ≡? 0) _ _ (λ i. exact-wrong eventSeen s _ (at + 1) refl (control-mended here) (omega arith))
+        (λ i. exact-if eventSeen s _ (at + 1) (s ! (at + 1) % 16 ≡? 15) _ _ (λ j. exact-wrong eventSeen s _ (at + 1) refl (control-mended here) (omega arith))
+        (λ j. exact-ends eventSeen s _ (at + 1) refl (omega arith))))
 
-      long-exact : ControlExact (longAt voice s at (s ! (at + 1) / 64) (longKind (s ! (at + 1) % 16)))
-      unfolding controlAt formed longAt if_then_else_
-      long-exact =
-          if-all ControlExact (longKind (s ! (at + 1) % 16) ≡? 0) _ _
-          (λ h. second-wrong 22 (omega arith) (omega arith) (λ t r e. simp (lt-leb, e, long, h)))
-          (λ h. if-all ControlExact (not (hasKind voice (longKind (s ! (at + 1) % 16)))) _ _
-          (λ i. second-wrong 22 (omega arith) (omega arith) (λ t r e. simp (lt-leb, e, long, h, i)))
-          (λ i. if-all ControlExact (length s ≤? at + 2) _ _
-          (λ j. cut-here eventSeen s _ (at + 1) (at + 2) _ (omega arith) (value-mended h i) (omega (arith, leb-true)))
-          (λ j. if-all ControlExact (isValue (longKind (s ! (at + 1) % 16)) (s ! (at + 2))) _ _
-          (λ k. (
-            omega arith,
-            λ t a.
-                let room : at + 1 < length t = omega arith in
-                let more : at + 2 < length t = omega arith in
-                let second = a .same (at + 1) (omega arith) in
-                let third = a .same (at + 2) (omega arith) in
-                simp (lt-leb, second, third, long, h, i, k),
-          ))
-          (λ k. wrong-here eventSeen s _ (at + 1) (at + 2) _ (omega arith) (value-mended h i) 23 (omega arith) (omega arith) (omega (arith, leb-false))
-          (λ t a.
-          let room : at + 1 < length t = omega arith in
-          let more : at + 2 < length t = omega arith in
-          let second = a .same (at + 1) (omega arith) in
-          let third = a .same (at + 2) (omega arith) in
-          simp (lt-leb, second, third, long, h, i, k))))))
-
-    module _ (short : (s ! (at + 1) / 16 % 4 ≡? 3) ≡ false) where
-      short-exact : ControlExact (shortAt voice at (s ! (at + 1) / 64) (shortKind (s ! (at + 1) / 16 % 4)) (s ! (at + 1) % 16))
-      unfolding controlAt formed shortAt if_then_else_
-      short-exact =
-          if-all ControlExact (not (hasKind voice (shortKind (s ! (at + 1) / 16 % 4)))) _ _
-          (λ h. second-wrong 22 (omega arith) (omega arith) (λ t r e. simp (lt-leb, e, short, h)))
-          (λ h. if-all ControlExact (s ! (at + 1) % 16 ≡? 0) _ _
-          (λ i. second-wrong 23 (omega arith) (omega arith) (λ t r e. simp (lt-leb, e, short, h, i)))
-          (λ i. if-all ControlExact (s ! (at + 1) % 16 ≡? 15) _ _
-          (λ j. second-wrong 23 (omega arith) (omega arith) (λ t r e. simp (lt-leb, e, short, h, i, j)))
-          (λ j. (
-            omega arith,
-            λ t a.
-                let room : at + 1 < length t = omega arith in
-                let second = a .same (at + 1) (omega arith) in
-                simp (lt-leb, second, short, h, i, j),
-          ))))
-
-  pub control-exact : at < length s → Exact eventSeen s (λ t. controlAt voice t at) (at + 1) (controlAt voice s at)
-  unfolding controlAt formed if_then_else_
-  control-exact here =
-      if-all (Exact eventSeen s (λ t. controlAt voice t at) (at + 1)) (length s ≤? at + 1) _ _
-      (λ h. cut-here eventSeen s _ (at + 1) (at + 1) _ (omega arith) (control-mended (omega arith)) (omega (arith, leb-true)))
-      (λ h.
-      let room : at + 1 < length s = leb-false (length s) (at + 1) h in
-      if-all (Exact eventSeen s (λ t. controlAt voice t at) (at + 1)) (s ! (at + 1) / 16 % 4 ≡? 3) _ _ (λ i. long-exact room i) (λ i. short-exact room i))
+    pub control-exact : Exact eventSeen s (λ t. controlAt voice t at) (λ t. controlAt voice t at) (at + 1)
+    unfolding controlAt formed
+    control-exact =
+        exact-byte eventSeen s _ (Refused 20) (λ end. refl) (at + 1) (at + 1) (λ second t. formed voice t at second) (omega arith)
+        (mended-end eventSeen s _ (at + 1) here (control-mended here))
+        (λ room. exact-if eventSeen s _ (at + 1) (s ! (at + 1) / 16 % 4 ≡? 3) _ _ (long-exact room) (λ h. short-exact room))

@@ -1,108 +1,37 @@
 -- Items are read exactly, but for three zeros: as an item they are refused at the third, and with a fourth they are an end mark.
 use Prim.Native.Nat.{ℕ, _+_, _<_, _≤_}
 use mathlib.Core.Bool.{true, false}
-use mathlib.Core.List.{List, [], _∷_, _++_}
+use mathlib.Core.List.{List}
 use mathlib.Core.Logic.{_⊎_, inl, inr}
 use mathlib.Core.Path.{_≡_, refl, sym, _∙_, ap, subst}
-use lib.ListN.{length, length-append}
-use lib.Seq.{getD-append-add}
+use lib.ListN.{length}
 use native.Mathlib.Omega.{arith}
 use borrow.Author.Tests.{le-leb, lt-leb, leb-true, eqb-true}
 use Rattle.model.specs.Words.{if_then_else_, _and_}
 use Rattle.model.specs.Bytes.{_!_}
 use Rattle.model.specs.Duration.{durationAt}
-use Rattle.model.specs.Event.{hasKind, shortAt, formed, controlAt, eventAt}
+use Rattle.model.specs.Event.{shortAt, formed, controlAt, eventAt}
 use Rattle.model.specs.Item.{isEndMark, withEvent, withDuration, itemAt}
 use Rattle.model.specs.declared.Voice.{Voice}
-use Rattle.model.specs.declared.Voice.the-variants.{Score, Pcm}
 use Rattle.model.specs.declared.Event.{Event}
-use Rattle.model.specs.declared.ReadDuration.{ReadDuration}
 use Rattle.model.specs.declared.ReadDuration.the-variants as duration
-use Rattle.model.specs.declared.ReadEvent.{ReadEvent}
 use Rattle.model.specs.declared.ReadEvent.the-variants as event
 use Rattle.model.specs.declared.ReadItem.{ReadItem}
 use Rattle.model.specs.declared.ReadItem.the-variants.{Timed, EndMark, Refused}
 use Rattle.model.proofs.Tests.{by-test, if-true, if-false, and-left, and-right}
-use Rattle.items.proofs.Ahead.{DurationAhead, duration-ahead}
-use Rattle.faults.proofs.Agreement.{Agree, Continued, continued-first, AreBytes}
-use Rattle.faults.proofs.Exact.{Seen, Seen.ends, Seen.fails, Cause, Fault, Exact, exact-made}
-use Rattle.faults.proofs.Durations.{durationSeen, duration-exact}
-use Rattle.faults.proofs.Controls.{eventSeen}
-use Rattle.faults.proofs.Events.{nop-reads, event-exact}
-
-abbrev pub itemSeen : ReadItem → Seen
-itemSeen (Timed duration event next) = ends next
-itemSeen (EndMark next) = ends next
-itemSeen (Refused number place) = fails number place
-
--- AN ITEM THAT IS NO END MARK: a duration and an event
-abbrev pub timedAt : Voice → List ℕ → ℕ → ReadItem
-timedAt voice s at = withDuration voice s (durationAt s at)
-
-event-seen : (value : ℕ) (e : ReadEvent) → itemSeen (withEvent value e) ≡ eventSeen e
-unfolding withEvent
-event-seen value (event.Is what next) = refl
-event-seen value (event.Refused number place) = refl
-
-bytes-both : (first second : List ℕ) → AreBytes first → AreBytes second → AreBytes (first ++ second)
-bytes-both [] second h k = k
-bytes-both (byte ∷ first) second h k = (h .0, bytes-both first second (h .1) k)
-
-module _ (voice : Voice) (s : List ℕ) (at : ℕ) where
-  -- a duration that is made readable, and a NOP after it
-  nop-follows : (t : List ℕ) (place : ℕ) (rest : List ℕ) → Continued s place (rest ++ (0xFF ∷ 0x00 ∷ [])) t → (d : ReadDuration)
-      → durationSeen d ≡ ends (place + length rest) → itemSeen (withDuration voice t d) ≡ ends (place + length (rest ++ (0xFF ∷ 0x00 ∷ [])))
-  unfolding withDuration withEvent
-  nop-follows t place rest c (duration.Is value next) e =
-      let long : length (rest ++ (0xFF ∷ 0x00 ∷ [])) ≡ length rest + 2 = length-append rest (0xFF ∷ 0x00 ∷ []) in
-      let there : next ≡ place + length rest = cc in
-      let first = c .then-byte next (length rest + 0) (omega arith) (omega arith) ∙ getD-append-add rest (0xFF ∷ 0x00 ∷ []) 0 0 in
-      let second = c .then-byte (next + 1) (length rest + 1) (omega arith) (omega arith) ∙ getD-append-add rest (0xFF ∷ 0x00 ∷ []) 1 0 in
-      ap (λ (r : ReadEvent). itemSeen (withEvent value r)) (nop-reads voice t next (omega (arith, c .room)) first second) ∙ ap ends (omega arith)
-  nop-follows t place rest c (duration.Refused number there) e = let z : _≡_ {A = ℕ} 0 1 = cc in absurd (omega arith)
-
-  timed-exact : at < length s → Exact itemSeen s (λ t. timedAt voice t at) at (timedAt voice s at)
-  unfolding withDuration
-  timed-exact here = go (durationAt s at) (duration-ahead s at) (duration-exact s at here)
-    where
-      cause : (number place : ℕ) → Cause durationSeen s (λ t. durationAt t at) (duration.Refused number place) number place
-          → Cause itemSeen s (λ t. timedAt voice t at) (Refused number place) number place
-      cause number place (inl c) = inl c
-      cause number place (inr w) =
-          inr (record { low = w .low; high = w .high; within = w .within; stays = λ t a. ap (withDuration voice t) (w .stays t a) })
-
-      go : (d : ReadDuration) → DurationAhead at (length s) d → Exact durationSeen s (λ t. durationAt t at) at d
-          → Exact itemSeen s (λ t. timedAt voice t at) at (withDuration voice s d)
-      go (duration.Is value next) ahead e =
-          exact-made eventSeen itemSeen (withEvent value) (event-seen value) s (λ t. eventAt voice t next) _ next
-          (λ t a. ap (withDuration voice t) (e .1 t a)) at (eventAt voice s next) (e .0) (event-exact voice s next (ahead .1))
-      go (duration.Refused number place) ahead f =
-          let m = f .mended in
-          record {
-            past = f .past;
-            cause = cause number place (f .cause);
-            mended = record {
-              rest = m .rest ++ (0xFF ∷ 0x00 ∷ []);
-              bytes = bytes-both (m .rest) _ (m .bytes) (omega arith);
-              reads = λ t c. nop-follows t place (m .rest) c (durationAt t at) (m .reads t (continued-first s place (m .rest) _ t c));
-            };
-          }
-
--- THREE ZEROS, and an end mark
-
-has-short-expression : (voice : Voice) → hasKind voice 13 ≡ true
-unfolding hasKind _and_
-has-short-expression Score = refl
-has-short-expression Pcm = refl
+use Rattle.faults.proofs.Agreement.{Agree}
+use Rattle.faults.proofs.Exact.{Seen.ends, Seen.fails, Fault, ExactAs}
+use Rattle.faults.proofs.Controls.{shared-kind}
+use Rattle.faults.proofs.Timed.{itemSeen, timedAt, timed-exact}
 
 pub zeros-refused : (voice : Voice) (s : List ℕ) (at : ℕ) → at + 2 < length s → s ! at ≡ 0 → s ! (at + 1) ≡ 0 → s ! (at + 2) ≡ 0
     → timedAt voice s at ≡ Refused 23 (at + 2)
-unfolding durationAt withDuration eventAt controlAt formed shortAt withEvent if_then_else_
+unfolding durationAt withDuration eventAt controlAt formed shortAt withEvent if_then_else_ _and_
 zeros-refused voice s at room first second third =
     let here : at < length s = omega arith in
     let more : at + 1 < length s = omega arith in
     let after : at + 1 + 1 ≡ at + 2 = omega arith in
-    simp (lt-leb, first, second, after, third, has-short-expression)
+    simp (lt-leb, first, second, after, third, shared-kind voice 13 refl)
 
 pub record Zeros (s : List ℕ) (at : ℕ) : Type 0 where
   pub room : at + 4 ≤ length s
@@ -130,8 +59,7 @@ module _ (s : List ℕ) (at : ℕ) where
   unfolding isEndMark _and_
   zeros-mark z = simp (le-leb (at + 4) (length s) (z .room), z .first, z .second, z .third, z .fourth)
 
--- WHAT STANDS AT A PLACE, an end mark or not
-
+-- what stands at a place, an end mark or not
 module _ (voice : Voice) (s : List ℕ) (at : ℕ) where
   marked : isEndMark s at ≡ true → itemAt voice s at ≡ EndMark (at + 4)
   unfolding itemAt
@@ -165,8 +93,11 @@ module _ (voice : Voice) (s : List ℕ) (at : ℕ) where
 
 -- An item that is read is read no differently where other bytes follow, and a refused one is refused exactly.
 module _ (voice : Voice) (s : List ℕ) (at : ℕ) (here : at < length s) where
-  read-exact : (r : ReadItem) → itemAt voice s at ≡ r → (EndMark (at + 4) ≡ r → ⊥) → Exact itemSeen s (λ t. timedAt voice t at) at r
-  read-exact r e other = subst (Exact itemSeen s (λ t. timedAt voice t at) at) (no-mark voice s at r e other) (timed-exact voice s at here)
+  read-exact : (r : ReadItem) → itemAt voice s at ≡ r → (EndMark (at + 4) ≡ r → ⊥)
+      → ExactAs itemSeen s (λ t. timedAt voice t at) (λ t. timedAt voice t at) at r (itemSeen r)
+  read-exact r e other =
+      subst (λ (v : ReadItem). ExactAs itemSeen s (λ t. timedAt voice t at) (λ t. timedAt voice t at) at v (itemSeen v)) (no-mark voice s at r e other)
+      (timed-exact voice s at here .exactly)
 
   pub timed-stays : (duration next : ℕ) (event : Event) → itemAt voice s at ≡ Timed duration event next → (t : List ℕ) → Agree next s t
       → itemAt voice t at ≡ Timed duration event next
@@ -175,5 +106,5 @@ module _ (voice : Voice) (s : List ℕ) (at : ℕ) (here : at < length s) where
       no-zeros voice t at (λ z. let w : _≡_ {A = ℕ} 0 1 = cc in omega arith) ∙ same
 
   pub refused-exact : (number place : ℕ) → itemAt voice s at ≡ Refused number place
-      → Fault itemSeen s (λ t. timedAt voice t at) at (Refused number place) number place
+      → Fault itemSeen s (λ t. timedAt voice t at) (λ t. timedAt voice t at) at (Refused number place) number place
   refused-exact number place e = read-exact (Refused number place) e (λ q. let w : _≡_ {A = ℕ} 0 1 = cc in omega arith)

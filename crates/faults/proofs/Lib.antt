@@ -5,6 +5,8 @@ pub mod Durations
 pub mod Controls
 pub mod Systems
 pub mod Events
+pub mod Timed
 pub mod Items
 pub mod Reached
+pub mod Faulty
 pub mod ExactByte

@@ -20,7 +20,8 @@ use Rattle.items.proofs.Reading.{unmarked-passes, last-passes, mark-refuses}
 use Rattle.items.proofs.Standing.{body-stands, body-reads-to}
 use Rattle.faults.proofs.Agreement.{Agree, agree-fewer}
 use Rattle.faults.proofs.Exact.{Seen.ends}
-use Rattle.faults.proofs.Items.{itemSeen, timed-stays}
+use Rattle.faults.proofs.Timed.{itemSeen}
+use Rattle.faults.proofs.Items.{timed-stays}
 
 pub data Reached (voice : Voice) (s : List ℕ) : ℕ → Type 0 where
   head : Reached voice s 0

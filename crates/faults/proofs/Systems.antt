@@ -6,13 +6,14 @@ use mathlib.Core.Path.{_≡_, refl, _∙_}
 use lib.ListN.{length, replicate, length-append, length-replicate}
 use lib.Seq.{getD-at}
 use native.Mathlib.Omega.{arith}
-use borrow.Author.Tests.{lt-leb, leb-true, leb-false, le-ltb, ltb-false}
-use Rattle.model.specs.Words.{if_then_else_, _<?_, _≤?_, _≡?_}
+use borrow.Author.Tests.{lt-leb, le-ltb, ltb-false, eqb-true}
+use Rattle.model.specs.Words.{if_then_else_, _<?_, _≡?_}
 use Rattle.model.specs.Bytes.{_!_}
 use Rattle.model.specs.Event.{closedAt, exclusiveAt, systemAt}
-use Rattle.model.proofs.Tests.{if-all}
+use Rattle.model.specs.declared.Event.the-variants.{Nop, Exclusive}
+use Rattle.model.specs.declared.ReadEvent.the-variants.{Is, Refused}
 use Rattle.faults.proofs.Agreement.{AreBytes}
-use Rattle.faults.proofs.Exact.{Mended, Exact, exact-as, cut-here, wrong-here}
+use Rattle.faults.proofs.Exact.{Mended, Exact, exact-ends, exact-wrong, exact-if, exact-byte, exact-part, mended-end}
 use Rattle.faults.proofs.Controls.{eventSeen}
 
 -- so many zeros, and F7
@@ -61,39 +62,25 @@ module _ (s : List ℕ) (at : ℕ) where
             simp (lt-leb, size, le-ltb, last, next);
       }
 
-  exclusive-exact : at + 2 ≤ length s → Exact eventSeen s (λ t. exclusiveAt t at) (at + 2) (exclusiveAt s at)
-  unfolding exclusiveAt closedAt if_then_else_
+  closed-exact : at + 2 < length s → Exact eventSeen s (λ t. exclusiveAt t at) (λ t. closedAt t at (s ! (at + 2))) (at + 2)
+  unfolding closedAt
+  closed-exact room =
+      exact-if eventSeen s _ (at + 2) (s ! (at + 2) <? 3) _ _ (λ h. exact-wrong eventSeen s _ (at + 2) refl (size-mended (omega arith)) (omega arith))
+      (λ h.
+      let enough : 3 ≤ s ! (at + 2) = ltb-false _ _ h in
+      exact-byte eventSeen s _ (Refused 20) (λ end. refl) (at + 2) (at + 2 + s ! (at + 2))
+      (λ last t. if last ≡? 0xF7 then Is (Exclusive at (s ! (at + 2))) (at + 2 + s ! (at + 2) + 1) else Refused 23 (at + 2 + s ! (at + 2))) (omega arith)
+      (λ past. ending-mended (length s) room past (omega arith) enough)
+      (λ more. exact-if eventSeen s _ (at + 2 + s ! (at + 2)) (s ! (at + 2 + s ! (at + 2)) ≡? 0xF7) _ _
+      (λ i. exact-ends eventSeen s _ (at + 2 + s ! (at + 2)) refl (omega arith))
+      (λ i. exact-wrong eventSeen s _ (at + 2 + s ! (at + 2)) refl
+      (ending-mended (at + 2 + s ! (at + 2)) (omega arith) (omega arith) (omega arith) enough) (omega arith))))
+
+  exclusive-exact : at + 2 ≤ length s → Exact eventSeen s (λ t. exclusiveAt t at) (λ t. exclusiveAt t at) (at + 2)
+  unfolding exclusiveAt
   exclusive-exact within =
-      if-all (Exact eventSeen s (λ t. exclusiveAt t at) (at + 2)) (length s ≤? at + 2) _ _
-      (λ h. cut-here eventSeen s _ (at + 2) (at + 2) _ (omega arith) (size-mended within) (omega (arith, leb-true)))
-      (λ h. if-all (Exact eventSeen s (λ t. exclusiveAt t at) (at + 2)) (s ! (at + 2) <? 3) _ _
-      (λ i. wrong-here eventSeen s _ (at + 2) (at + 2) _ (omega arith) (size-mended within) 23 (omega arith) (omega arith) (omega (arith, leb-false))
-      (λ t a.
-      let room : at + 2 < length t = omega arith in
-      let size = a .same (at + 2) (omega arith) in
-      simp (lt-leb, size, i)))
-      (λ i. if-all (Exact eventSeen s (λ t. exclusiveAt t at) (at + 2)) (length s ≤? at + 2 + s ! (at + 2)) _ _
-      (λ j. cut-here eventSeen s _ (at + 2) (length s) _ within
-      (ending-mended (length s) (omega (arith, leb-false)) (leb-true _ _ j) (omega arith) (ltb-false _ _ i)) refl)
-      (λ j. if-all (Exact eventSeen s (λ t. exclusiveAt t at) (at + 2)) (s ! (at + 2 + s ! (at + 2)) ≡? 0xF7) _ _
-      (λ k. (
-        omega arith,
-        λ t a.
-            let room : at + 2 < length t = omega arith in
-            let more : at + 2 + s ! (at + 2) < length t = omega arith in
-            let size = a .same (at + 2) (omega arith) in
-            let last = a .same (at + 2 + s ! (at + 2)) (omega arith) in
-            simp (lt-leb, size, i, last, k),
-      ))
-      (λ k. wrong-here eventSeen s _ (at + 2) (at + 2 + s ! (at + 2)) _ (omega arith)
-      (ending-mended (at + 2 + s ! (at + 2)) (omega (arith, ltb-false)) (omega arith) (omega (arith, leb-false)) (ltb-false _ _ i))
-      23 (omega arith) (omega arith) (leb-false _ _ j)
-      (λ t a.
-      let room : at + 2 < length t = omega (arith, ltb-false) in
-      let more : at + 2 + s ! (at + 2) < length t = omega arith in
-      let size = a .same (at + 2) (omega (arith, ltb-false)) in
-      let last = a .same (at + 2 + s ! (at + 2)) (omega arith) in
-      simp (lt-leb, size, i, last, k))))))
+      exact-byte eventSeen s _ (Refused 20) (λ end. refl) (at + 2) (at + 2) (λ size t. closedAt t at size) (omega arith)
+      (mended-end eventSeen s _ (at + 2) within (size-mended within)) closed-exact
 
   system-mended : at + 1 ≤ length s → Mended eventSeen s (λ t. systemAt t at) (at + 1)
   unfolding systemAt if_then_else_
@@ -108,28 +95,20 @@ module _ (s : List ℕ) (at : ℕ) where
             simp (lt-leb, second, next);
       }
 
-  pub system-exact : at + 1 ≤ length s → Exact eventSeen s (λ t. systemAt t at) (at + 1) (systemAt s at)
+  -- FF F0, in any body
+  exclusive-read : (t : List ℕ) → at + 1 < length t → t ! (at + 1) ≡ 0xF0 → systemAt t at ≡ exclusiveAt t at
   unfolding systemAt if_then_else_
+  exclusive-read t room second = simp (lt-leb, second)
+
+  pub system-exact : at + 1 ≤ length s → Exact eventSeen s (λ t. systemAt t at) (λ t. systemAt t at) (at + 1)
+  unfolding systemAt
   system-exact within =
-      if-all (Exact eventSeen s (λ t. systemAt t at) (at + 1)) (length s ≤? at + 1) _ _
-      (λ h. cut-here eventSeen s _ (at + 1) (at + 1) _ (omega arith) (system-mended within) (omega (arith, leb-true)))
-      (λ h. if-all (Exact eventSeen s (λ t. systemAt t at) (at + 1)) (s ! (at + 1) ≡? 0x00) _ _
-      (λ i. (
-        omega arith,
-        λ t a.
-            let room : at + 1 < length t = omega arith in
-            let second = a .same (at + 1) (omega arith) in
-            simp (lt-leb, second, i),
-      ))
-      (λ i. if-all (Exact eventSeen s (λ t. systemAt t at) (at + 1)) (s ! (at + 1) ≡? 0xF0) _ _
-      (λ j. exact-as eventSeen s (λ t. exclusiveAt t at) _ (at + 2)
-      (λ t a.
-      let room : at + 1 < length t = omega arith in
-      let second = a .same (at + 1) (omega arith) in
-      simp (lt-leb, second, i, j))
-      (at + 1) (exclusiveAt s at) (omega arith) (exclusive-exact (omega (arith, leb-false))))
-      (λ j. wrong-here eventSeen s _ (at + 1) (at + 1) _ (omega arith) (system-mended within) 22 (omega arith) (omega arith) (omega (arith, leb-false))
-      (λ t a.
-      let room : at + 1 < length t = omega arith in
-      let second = a .same (at + 1) (omega arith) in
-      simp (lt-leb, second, i, j)))))
+      exact-byte eventSeen s _ (Refused 20) (λ end. refl) (at + 1) (at + 1)
+      (λ second t. if second ≡? 0x00 then Is Nop (at + 2) else if second ≡? 0xF0 then exclusiveAt t at else Refused 22 (at + 1)) (omega arith)
+      (mended-end eventSeen s _ (at + 1) within (system-mended within))
+      (λ room. exact-if eventSeen s _ (at + 1) (s ! (at + 1) ≡? 0x00) _ _ (λ h. exact-ends eventSeen s _ (at + 1) refl (omega arith))
+      (λ h. exact-if eventSeen s _ (at + 1) (s ! (at + 1) ≡? 0xF0) _ _
+      (λ i. exact-part eventSeen s (λ t. exclusiveAt t at) _ (at + 2)
+      (λ t a. exclusive-read t (omega arith) (a .same (at + 1) (omega arith) ∙ eqb-true _ _ i)) (λ t. exclusiveAt t at) (at + 1) (omega arith)
+      (exclusive-exact (omega arith)))
+      (λ i. exact-wrong eventSeen s _ (at + 1) refl (system-mended within) (omega arith))))
