@@ -33,7 +33,7 @@ marked-within size item before n place e = go (isMark (item .what) and (item .pl
         → (if t then refused 11 (item .place + 4) else passed) ≡ refused n place → place ≤ size
     go true h q =
         let same : item .place + 4 ≡ place = cc in
-        omega (arith, ltb-true (item .place + 4) (size) (and-right (isMark (item .what)) _ h))
+        omega (arith, ltb-true (item .place + 4) size (and-right (isMark (item .what)) _ h))
     go false h q = let z : _≡_ {A = ℕ} 0 1 = cc in absurd (omega arith)
 
 pub body-refused-within : (voice : Voice) (s : List ℕ) (n place : ℕ) → bodyOf voice s ≡ refused n place → place ≤ length s
