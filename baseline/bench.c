@@ -101,27 +101,37 @@ static void stream(size_t items, size_t bytes) {
     end_file(body);
 }
 
-/* A track of eight phrases of so many items each, played in an order of so many letters. */
-static void order(size_t items, size_t letters) {
-    static size_t borders[9];
+static void put_phrase(unsigned letter, size_t from, size_t to) {
+    put_byte('P'), put_byte(letter), put_byte(':');
+    put_number(from), put_number(to);
+    put_byte(',');
+}
+
+/* A track of eight phrases of so many items each, played in an order of so many letters. Where it is marked, an end mark stands after each
+ * phrase, which none of the eight reaches, and the last letter is that of a ninth one: the seventh, its mark, and the eighth. */
+static void order(size_t items, size_t letters, int marked) {
+    static size_t starts[8], stops[8];
     state = 2;
     size_t body = begin_file(), track = begin_track(1), sequence = begin("Mts", 'q');
     for (int p = 0; p < 8; p++) {
-        borders[p] = length - sequence;
+        starts[p] = length - sequence;
         for (size_t i = 0; i < items; i++)
             put_item();
+        stops[p] = length - sequence;
+        if (marked)
+            put("\0\0\0\0", 4);
     }
-    borders[8] = length - sequence;
     end(sequence);
     size_t seek = begin("Msp", 'I');
-    for (int p = 0; p < 8; p++) {
-        put_byte('P'), put_byte('a' + (unsigned)p), put_byte(':');
-        put_number(borders[p]), put_number(borders[p + 1]);
-        put_byte(',');
-    }
+    for (int p = 0; p < 8; p++)
+        put_phrase('a' + (unsigned)p, starts[p], stops[p]);
+    if (marked)
+        put_phrase('i', starts[6], stops[7]);
     put("SL:", 3);
     for (size_t i = 0; i < letters; i++)
         put_byte('a' + any(8));
+    if (marked)
+        file[length - 1] = 'i';
     end(seek);
     end(track);
     end_file(body);
@@ -217,11 +227,13 @@ int main(void) {
     measure("read: 8,000 chunks", read_ours, read_theirs, 0);
     stream(20000, LARGEST);
     measure("play: a stream of 20,000 messages", play_ours, play_theirs, 0);
-    order(20, 3000);
+    order(20, 3000, 0);
     measure("play: an order of 3,000 letters, 60,000 messages", play_ours, play_theirs, 0);
-    order(20, 1000);
+    order(20, 3000, 1);
+    measure("play: an order of 3,000 letters, stopped by a mark in the last", play_ours, play_theirs, 0);
+    order(20, 1000, 0);
     measure("flatten: an order of 1,000 letters, 20,000 messages", flatten_ours, flatten_theirs, 0);
-    order(200, 58000);
+    order(200, 58000, 0);
     measure("refused: an order of 58,000 letters, play", play_ours, play_theirs, 15);
     measure("refused: an order of 58,000 letters, flatten", flatten_ours, flatten_theirs, 18);
     stream(100000, LARGEST - 8);

@@ -35,30 +35,47 @@ static struct {
     size_t count;
 } messages;
 
-static void decode(const uint8_t *s, const struct track *t) {
+/* Its end marks: where each stands, its onset, and how many messages stand before it. */
+struct mark {
+    uint64_t onset;
+    uint32_t place, before;
+};
+static struct mark marks[65536 / 4 + 1];
+static size_t mark_count;
+
+/* Decodes up to the first end mark that stands at an address or after it; with the body's size for an address, all of it. The last of the
+ * marks is where that ended: the body's end is one too, since a section without a stop ends there as at a mark. */
+static void decode(const uint8_t *s, const struct track *t, size_t address) {
     const uint8_t *body = s + t->sequence.at;
-    size_t n = t->sequence.size, at = 0, count = 0;
+    size_t n = t->sequence.size, at = 0, count = 0, marked = 0;
     uint64_t time = 0;
     while (at < n) {
         struct item item;
-        at = read_item(body, n, at, t->pcm, &item);
+        size_t next = read_item(body, n, at, t->pcm, &item);
         time += item.duration;
         if (item.what == MESSAGE) {
             messages.onset[count] = time;
             messages.word[count] = item.word;
             messages.event[count] = (uint32_t)item.event;
-            messages.past[count] = (uint32_t)at;
+            messages.past[count] = (uint32_t)next;
             count++;
+        } else if (item.what == END_MARK) {
+            if (at >= address)
+                break;
+            marks[marked++] = (struct mark){time, (uint32_t)at, (uint32_t)count};
         }
+        at = next;
     }
+    marks[marked++] = (struct mark){time, (uint32_t)at, (uint32_t)count};
     messages.count = count;
+    mark_count = marked;
 }
 
-/* A section: its first message and the one after its last, its start and how long it lasts. */
+/* A section: its first message and the one after its last, its start and how long it lasts, and whether a mark stops it. */
 struct section {
     size_t first, past;
     uint64_t start, lasts;
-    int known;
+    int known, stopped;
 };
 
 static uint64_t time_of(const uint8_t *s, const struct track *t, size_t address) {
@@ -85,8 +102,28 @@ static size_t first_from(uint64_t time) {
     return low;
 }
 
-static struct section between(uint64_t from, uint64_t to) {
-    return (struct section){first_from(from), first_from(to), from, to - from, 1};
+/* The first mark at an address or after it. The body's end is among them, so there is one. */
+static const struct mark *mark_from(size_t address) {
+    size_t low = 0, high = mark_count - 1;
+    while (low < high) {
+        size_t middle = (low + high) / 2;
+        if (marks[middle].place < address)
+            low = middle + 1;
+        else
+            high = middle;
+    }
+    return marks + low;
+}
+
+/* From an address to a time, unless a mark stops it before. With no stop that time is FOREVER, and the body's end stops it too. */
+static const uint64_t FOREVER = ~0ull;
+static struct section between(const uint8_t *s, const struct track *t, size_t address, uint64_t to) {
+    const struct mark *mark = mark_from(address);
+    uint64_t from = time_of(s, t, address);
+    int stopped = mark->onset < to;
+    size_t past = stopped ? mark->before : first_from(to);
+    uint64_t end = stopped ? mark->onset : to;
+    return (struct section){first_from(from), past, from, end - from, 1, stopped};
 }
 
 /* The sections of a track in their order. */
@@ -95,7 +132,7 @@ static const uint8_t one_letter[1];
 static const uint8_t *letters;
 static size_t letter_count;
 
-/* Finds the track of a row and its order: 1 to 14, 20 to 23, 16, 17. */
+/* Finds the track of a row and its order, as far as it is played: 1 to 14, 20 to 23, 16, 17. */
 static struct refusal perform(const uint8_t *s, size_t length, size_t n, size_t row, struct file *file) {
     if (n > length || n > 65536)
         return (struct refusal){1, 0};
@@ -107,17 +144,15 @@ static struct refusal perform(const uint8_t *s, size_t length, size_t n, size_t 
     struct track *t = &file->track;
     if (t->phrases && !t->ordered)
         return (struct refusal){17, t->header};
-    decode(s, t);
     if (!t->phrases) {
-        uint64_t from = t->starts ? time_of(s, t, t->start) : 0;
-        if (t->stops)
-            sections[0] = between(from, time_of(s, t, t->stop));
-        else
-            sections[0] = (struct section){first_from(from), messages.count, from, t->time - from, 1};
+        size_t start = t->starts ? t->start : 0;
+        decode(s, t, start);
+        sections[0] = between(s, t, start, t->stops ? time_of(s, t, t->stop) : FOREVER);
         letters = one_letter;
         letter_count = 1;
         return (struct refusal){0, 0};
     }
+    decode(s, t, t->sequence.size);
     size_t first = t->starts ? t->start : 0, last = t->stops ? t->stop : t->order.size;
     letters = s + t->order.at + first;
     letter_count = last - first;
@@ -127,7 +162,12 @@ static struct refusal perform(const uint8_t *s, size_t length, size_t n, size_t 
         struct section *one = &sections[letters[i]];
         if (!one->known) {
             struct phrase p = t->of_letter[letters[i]];
-            *one = between(time_of(s, t, p.from), time_of(s, t, p.to));
+            *one = between(s, t, p.from, time_of(s, t, p.to));
+            /* Nothing plays after it: a letter that is known is never one that is stopped. */
+            if (one->stopped) {
+                letter_count = i + 1;
+                break;
+            }
         }
     }
     return (struct refusal){0, 0};

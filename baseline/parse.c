@@ -42,11 +42,6 @@ static inline uint32_t word_of(uint32_t kind, uint32_t channel, uint32_t value, 
 }
 
 size_t read_item(const uint8_t *s, size_t n, size_t at, int pcm, struct item *item) {
-    if (n - at >= 4 && (s[at] | s[at + 1] | s[at + 2] | s[at + 3]) == 0) {
-        item->what = END_MARK;
-        item->duration = 0;
-        return at + 4;
-    }
     size_t long_by = length_at(s, n, at, &item->duration);
     size_t e = at + long_by;
     if (long_by == 0 || e >= n)
@@ -78,8 +73,14 @@ size_t read_item(const uint8_t *s, size_t n, size_t at, int pcm, struct item *it
             return e + 3;
         }
         uint32_t kind = short_kind[form];
-        if ((pcm && score_only[kind]) || low == 0 || low == 15)
-            return 0;
+        if ((pcm && score_only[kind]) || low == 0 || low == 15) {
+            /* The first three zeros of an end mark read as a short form of value 0, which is none: it is told from that here, and no message
+             * pays for it. */
+            if (n - at < 4 || number_4(s + at) != 0)
+                return 0;
+            item->what = END_MARK;
+            return at + 4;
+        }
         item->word = word_of(kind, c >> 6, low, 0);
         return e + 2;
     }
@@ -154,8 +155,6 @@ static struct refusal check_sequence(const uint8_t *s, struct track *t) {
     int noted = t->seek.at != 0;
     if (noted)
         memset(addresses, 0, (n / 64 + 1) * 8);
-    uint64_t time = 0;
-    size_t messages = 0;
     while (at < n) {
         struct item item;
         size_t next = read_item(body, n, at, t->pcm, &item);
@@ -163,16 +162,10 @@ static struct refusal check_sequence(const uint8_t *s, struct track *t) {
             return item_fault(s, t, t->sequence.at + at);
         if (noted)
             addresses[at / 64] |= 1ull << at % 64;
-        if (item.what == END_MARK && next < n)
-            return refuse(11, t->sequence.at + next);
-        time += item.duration;
-        messages += item.what == MESSAGE;
         at = next;
     }
     if (noted)
         addresses[n / 64] |= 1ull << n % 64;
-    t->time = time;
-    t->messages = messages;
     return passed;
 }
 

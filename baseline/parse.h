@@ -27,8 +27,6 @@ struct track {
     struct stretch order;
     struct phrase of_letter[256];
     uint8_t has_phrase[256];
-    size_t messages;
-    uint64_t time;
 };
 
 struct file {

@@ -25,7 +25,7 @@ static const char *const meanings[] = {
     "a track of unknown format, sequence type or time base, or too short",
     "a sub-chunk is not allowed there, or a required one is missing",
     "a setup body is empty, or not made of exclusives",
-    "a sequence body is empty, or goes on after its end mark",
+    "a sequence body is empty",
     "a seek body is empty or malformed",
     "an address or a position is against the rules",
     "a letter of an order list has no phrase",

@@ -23,8 +23,8 @@
  * - There is stack for the call: 128 KiB is enough.
  *
  * REFUSALS and their places, in the order in which they are tried: first the file's own chunk list; then each track in file order, from 8 on,
- * its chunk list for 4, 9 and 6 before the rest of 9. A sequence body is tried for 11 and 20 to 23 item by item; of several faults of one
- * item the earliest byte counts, then the lower number.
+ * its chunk list for 4, 9 and 6 before the rest of 9. A sequence body is tried for 11, then item by item for 20 to 23, behind end marks too;
+ * of several faults of one item the earliest byte counts, then the lower number.
  *
  *    1  n is over buffer_length, or over 65,536                              0
  *    2  n is below 10, or the first four bytes are not MMMD                  0
@@ -36,7 +36,7 @@
  *    8  a track of unknown format, sequence type or time base, or too short  the track's body
  *    9  a sub-chunk that is not allowed; a required one that is missing      its header; the track's
  *   10  a setup body that is empty, or not exclusives                        the body; the bad message
- *   11  a sequence body that is empty; bytes after the end mark              the body; the first such byte
+ *   11  a sequence body that is empty                                        the body
  *   20  an item cut short                                                    the byte after the body's last
  *   21  a forbidden note or wave number; a gate time of 0                    the event's first byte; the gate byte
  *   22  a reserved event or control, or one that a PCM track has not         its second byte
@@ -93,6 +93,10 @@ struct smaf_read_reply smaf_read(const uint8_t *buffer, size_t buffer_length, si
  * 16 + note, a wave's its number, a short form's its 4 bits. The word of an exclusive is kind 5 bits, place of its FF byte in the sequence
  * body 16, size byte 8, zeros 3. The shorter of the two tables says how much room there is.
  *
+ * Playing stops at the first end mark that a section reaches: one that stands at the section's start address or after it, with an onset
+ * before the section's stop time (any onset where a stream has no stop point). The end is the step there. Of that section the messages that
+ * stand before the mark play; nothing behind it does, and no later section is played.
+ *
  * Accepted: the first `count` numbers of `steps` and of `words` are the played rows, the rest is as it was. Refused: both are as they were. */
 struct smaf_play_reply {
     uint32_t refusal; /* 0, 1 to 17, or 20 to 23 */
@@ -103,7 +107,8 @@ struct smaf_play_reply {
 struct smaf_play_reply smaf_play(const uint8_t *buffer, size_t buffer_length, size_t n, size_t row, uint64_t *steps,
                                  size_t steps_length, uint32_t *words, size_t words_length);
 
-/* FLATTEN: the track that a chunk row names as one plain sequence body, which plays the same messages at the same steps to the same end.
+/* FLATTEN: the track that a chunk row names as one plain sequence body, which plays the same messages at the same steps to the same end. Where
+ * an end mark stops the playing, the plain form ends there. It has one end mark, its last four bytes.
  *
  * Accepted: the first `length` bytes of `room` are the plain form, end mark and all, the rest is as it was. Refused: `room` is as it was. A
  * room of 65,536 bytes is enough for every plain form that there is. */

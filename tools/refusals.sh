@@ -12,7 +12,7 @@ meaning_of() { # meaning_of NUMBER: what it says of the byte at its place, or of
     8) echo "this track is too short, or of an unknown format, sequence type or time base" ;;
     9) echo "this chunk is not allowed here, or, if it is a track, one that it needs is missing" ;;
     10) echo "a setup is empty, or this message of it is not a whole exclusive" ;;
-    11) echo "a sequence is empty, or this byte stands after its end mark" ;;
+    11) echo "a sequence is empty: its first item should stand here" ;;
     12) echo "a seek body is empty, or this entry of it is malformed, out of order or there twice" ;;
     13) echo "this entry names a place where no item begins, or past the order list, or starts after its stop" ;;
     14) echo "this letter of the order list has no phrase" ;;

@@ -68,6 +68,8 @@ pub fn plain_plays_the_same(file: &[u8], track: &Track, plain: &[u8]) -> Result<
 fn play_stream(body: &[u8], voice: Voice) -> Result<(Vec<(u64, Message)>, u64), String> {
     let sequence = read_sequence(body, voice)
         .map_err(|refusal| format!("the plain form is no sequence: {}", refusal.text()))?;
+    let marked_at_end = sequence.items.last() == sequence.marks.last();
+    hold(marked_at_end && sequence.marks.len() == 1, "the plain form has other end marks")?;
     let section = Section::whole(&sequence);
     let messages = section.played(&sequence).map(|(step, message)| (step, *message)).collect();
     Ok((messages, section.lasts))

@@ -1,4 +1,5 @@
-//! Items of a sequence body: durations, gate times and events, in both voices.
+//! Items of a sequence body: durations, gate times and events, in both voices,
+//! and the end marks among them.
 
 use crate::numbers::four_bytes;
 use crate::refusal::{Clause, Refusal};
@@ -28,6 +29,9 @@ pub enum Kind {
     Exclusive,
 }
 
+/// Where an item starts, four zeros are an end mark.
+pub const END_MARK: [u8; 4] = [0; 4];
+
 /// A message; `value` of an exclusive is its size byte. `start` and `end`
 /// bound its event in the body.
 #[derive(Clone, Copy, Debug, PartialEq, Eq)]
@@ -46,11 +50,13 @@ pub struct Item {
     pub onset: u64,
 }
 
-/// A whole sequence body. `messages` leaves the NOPs out. `addresses` are the
-/// starts of the items and of the end mark, and the body's length.
+/// A whole sequence body. `items` has the end marks too, `marks` has nothing
+/// else, and `messages` leaves them and the NOPs out. `addresses` are the starts
+/// of the items, and the body's length.
 #[derive(Clone, Debug, Default, PartialEq, Eq)]
 pub struct Sequence {
     pub items: Vec<Item>,
+    pub marks: Vec<Item>,
     pub messages: Vec<(u64, Message)>,
     pub addresses: Vec<usize>,
     pub time: u64,
@@ -232,26 +238,41 @@ pub fn read_sequence(body: &[u8], voice: Voice) -> Result<Sequence, Refusal> {
     let mut sequence = Sequence::default();
     let mut at = 0;
     while at < body.len() {
-        sequence.addresses.push(at);
-        if four_bytes(body, at) == Some([0; 4]) {
-            at += 4;
-            if at < body.len() {
-                return Err(Refusal::at(Clause::BytesAfterEndMark, at));
-            }
-            break;
-        }
-        let (duration, event) = length_at(body, at, &DURATION)?;
-        let (message, end) = event_at(body, event, voice)?;
-        sequence.time += u64::from(duration);
-        sequence.items.push(Item { start: at, onset: sequence.time });
-        sequence.messages.extend(message.map(|message| (sequence.time, message)));
-        at = end;
+        at = match four_bytes(body, at) {
+            Some(END_MARK) => sequence.add_mark(at),
+            _ => sequence.add_item(body, at, voice)?,
+        };
     }
     sequence.addresses.push(body.len());
     Ok(sequence)
 }
 
 impl Sequence {
+    /// Adds what stands at `start`, at the time that was reached by now.
+    fn add(&mut self, start: usize) -> Item {
+        let item = Item { start, onset: self.time };
+        self.addresses.push(start);
+        self.items.push(item);
+        item
+    }
+
+    /// Adds the end mark at `at`, which has no duration, and gives its end.
+    fn add_mark(&mut self, at: usize) -> usize {
+        let mark = self.add(at);
+        self.marks.push(mark);
+        at + END_MARK.len()
+    }
+
+    /// Adds the duration and the event at `at`, and gives their end.
+    fn add_item(&mut self, body: &[u8], at: usize, voice: Voice) -> Result<usize, Refusal> {
+        let (duration, event) = length_at(body, at, &DURATION)?;
+        let (message, end) = event_at(body, event, voice)?;
+        self.time += u64::from(duration);
+        self.add(at);
+        self.messages.extend(message.map(|message| (self.time, message)));
+        Ok(end)
+    }
+
     pub fn is_address(&self, address: u32) -> bool {
         self.addresses.binary_search(&(address as usize)).is_ok()
     }

@@ -1,7 +1,8 @@
-//! The plain form: what a track plays, as one sequence body without points.
+//! The plain form: what a track plays, as one sequence body without points,
+//! whose only end mark is its last item.
 
 use crate::file::open;
-use crate::item::{Message, Sequence};
+use crate::item::{Message, Sequence, END_MARK};
 use crate::numbers::LARGEST;
 use crate::play::{Performance, Section};
 use crate::refusal::{Clause, Refusal};
@@ -14,7 +15,6 @@ const LONGEST: u64 = 16_511;
 const LONG_REST: [u8; 4] = [0xFF, 0x7F, 0xFF, 0x00];
 
 const NOP: [u8; 2] = [0xFF, 0x00];
-const END_MARK: [u8; 4] = [0; 4];
 
 /// A gap as long rests and a last part of at most the longest duration.
 fn split(gap: u64) -> (u64, u64) {

@@ -1,18 +1,21 @@
-//! Playing: sections of a sequence, one after the other, into played rows.
+//! Playing: sections of a sequence, one after the other, into played rows, up to
+//! the first end mark that a section reaches.
 
 use crate::file::open;
-use crate::item::{Kind, Message, Sequence};
+use crate::item::{Item, Kind, Message, Sequence};
 use crate::refusal::{Clause, Refusal};
+use crate::seek::Phrase;
 use crate::track::Track;
 use std::ops::Range;
 
 /// A section: which of the sequence's messages it plays, its start time and
-/// how long it lasts.
+/// how long it lasts. All playing stops with a section that reaches an end mark.
 #[derive(Clone, Debug, PartialEq, Eq)]
 pub struct Section {
     pub messages: Range<usize>,
     pub start: u64,
     pub lasts: u64,
+    pub stops: bool,
 }
 
 impl Section {
@@ -26,20 +29,35 @@ impl Section {
         messages.map(move |(onset, message)| (onset - start, message))
     }
 
-    /// Onsets never fall, so the messages with a ≤ onset < b stand together.
-    fn between(sequence: &Sequence, start: u64, stop: u64) -> Section {
-        let messages = before(sequence, start)..before(sequence, stop);
-        Section { messages, start, lasts: stop - start }
+    /// The section between two addresses; with no stop, it runs to the body's
+    /// end.
+    fn between(sequence: &Sequence, start: u32, stop: Option<u32>) -> Section {
+        let stop = stop.map(|address| sequence.time_of(address));
+        let mark = reached_mark(sequence, start, stop);
+        let start = sequence.time_of(start);
+        match mark {
+            Some(mark) => Section::up_to_mark(sequence, start, mark),
+            None => Section::up_to_stop(sequence, start, stop),
+        }
     }
 
-    fn without_stop(sequence: &Sequence, start: u64) -> Section {
-        let messages = before(sequence, start)..sequence.messages.len();
-        Section { messages, start, lasts: sequence.time - start }
+    /// What stands before the mark plays, and nothing behind it.
+    fn up_to_mark(sequence: &Sequence, start: u64, mark: Item) -> Section {
+        let standing = |(_, message): &(u64, Message)| message.start < mark.start;
+        let messages = before(sequence, start)..sequence.messages.partition_point(standing);
+        Section { messages, start, lasts: mark.onset - start, stops: true }
+    }
+
+    /// Onsets never fall, so the messages with a ≤ onset < b stand together.
+    fn up_to_stop(sequence: &Sequence, start: u64, stop: Option<u64>) -> Section {
+        let end = stop.map_or(sequence.messages.len(), |stop| before(sequence, stop));
+        let messages = before(sequence, start)..end;
+        Section { messages, start, lasts: stop.unwrap_or(sequence.time) - start, stops: false }
     }
 
     /// The section that a body with no points plays.
     pub fn whole(sequence: &Sequence) -> Section {
-        Section::without_stop(sequence, 0)
+        Section::between(sequence, 0, None)
     }
 }
 
@@ -48,7 +66,17 @@ fn before(sequence: &Sequence, time: u64) -> usize {
     sequence.messages.partition_point(|(onset, _)| *onset < time)
 }
 
-/// What a track plays: its different sections, and the order they come in.
+/// The end mark that a section from that address up to that time reaches: the
+/// first one at or after the address, unless its onset is too late. Those behind
+/// it are no earlier.
+fn reached_mark(sequence: &Sequence, start: u32, stop: Option<u64>) -> Option<Item> {
+    let passed = sequence.marks.partition_point(|mark| mark.start < start as usize);
+    let mark = sequence.marks.get(passed).copied()?;
+    stop.is_none_or(|stop| mark.onset < stop).then_some(mark)
+}
+
+/// What a track plays: its different sections, and the order they come in, as
+/// far as it is played.
 pub struct Performance {
     pub sections: Vec<Section>,
     pub order: Vec<usize>,
@@ -64,31 +92,21 @@ impl Performance {
     }
 
     fn of_stream(track: &Track) -> Performance {
-        let sequence = &track.sequence;
-        let start = sequence.time_of(track.seek.start_value());
-        let section = match track.seek.stop {
-            Some(stop) => Section::between(sequence, start, sequence.time_of(stop.value)),
-            None => Section::without_stop(sequence, start),
-        };
+        let stop = track.seek.stop.map(|stop| stop.value);
+        let section = Section::between(&track.sequence, track.seek.start_value(), stop);
         Performance { sections: vec![section], order: vec![0] }
     }
 
     fn of_phrases(track: &Track) -> Result<Performance, Refusal> {
-        let (seek, sequence) = (&track.seek, &track.sequence);
+        let seek = &track.seek;
         let list = seek.list.as_ref();
         let list = list.ok_or(Refusal::at(Clause::OrderListMissing, track.header.place))?;
-        let time_of = |address| sequence.time_of(address);
-        let sections = seek.phrases.iter();
-        let sections = sections
-            .map(|phrase| Section::between(sequence, time_of(phrase.start), time_of(phrase.stop)))
-            .collect();
-        let mut index_of = [0; 256];
-        for (index, phrase) in seek.phrases.iter().enumerate() {
-            index_of[usize::from(phrase.letter)] = index;
-        }
         let stop = seek.stop.map_or(list.letters.len(), |stop| stop.value as usize);
         let letters = &list.letters[seek.start_value() as usize..stop];
-        let order = letters.iter().map(|letter| index_of[usize::from(*letter)]).collect();
+        let section =
+            |phrase: &Phrase| Section::between(&track.sequence, phrase.start, Some(phrase.stop));
+        let sections: Vec<Section> = seek.phrases.iter().map(section).collect();
+        let order = played_order(letters, &seek.phrases, &sections);
         Ok(Performance { sections, order })
     }
 
@@ -112,6 +130,24 @@ impl Performance {
         }
         played
     }
+}
+
+/// The sections of the letters, up to and with the first that reaches an end
+/// mark.
+fn played_order(letters: &[u8], phrases: &[Phrase], sections: &[Section]) -> Vec<usize> {
+    let mut index_of = [0; 256];
+    for (index, phrase) in phrases.iter().enumerate() {
+        index_of[usize::from(phrase.letter)] = index;
+    }
+    let mut order = Vec::new();
+    for letter in letters {
+        let index = index_of[usize::from(*letter)];
+        order.push(index);
+        if sections[index].stops {
+            break;
+        }
+    }
+    order
 }
 
 /// What a track plays.

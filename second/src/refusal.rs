@@ -31,7 +31,7 @@ clauses! {
     9: ScoreChunkNotAllowed PcmChunkNotAllowed ScoreSequenceMissing PcmSequenceMissing
        WaveMissing;
     10: SetupEmpty SetupNotExclusive SetupSizeUnderThree SetupCut SetupWithoutEnd;
-    11: SequenceEmpty BytesAfterEndMark;
+    11: SequenceEmpty;
     20: DurationCut EventCut GateCut GateSecondCut ControlCut ControlValueCut
         FullEventCut ExclusiveSizeCut ExclusiveCut;
     21: NoteForbidden WaveNumberZero WaveNumberSixtyThree GateZero;

@@ -88,9 +88,14 @@ impl Body {
         self.bytes.len() as u32
     }
 
-    fn ended(mut self) -> Vec<u8> {
+    /// An end mark, after what was played last.
+    fn mark(&mut self) {
         self.pause();
         self.bytes.extend([0; 4]);
+    }
+
+    fn ended(mut self) -> Vec<u8> {
+        self.mark();
         self.bytes
     }
 }
@@ -185,17 +190,63 @@ fn round_of_four() -> Vec<u8> {
     stream(body)
 }
 
+fn song(letters: &[u8], phrases: &[(u32, u32)], order: &[u8], body: Vec<u8>) -> Vec<u8> {
+    let entry = |(letter, (from, to)): (&u8, &(u32, u32))| phrase(*letter, *from, *to);
+    let mut entries: Vec<Vec<u8>> = letters.iter().zip(phrases).map(entry).collect();
+    entries.push([b"SL:", order].concat());
+    file(&[score(PHRASES, TEN, &[(b"MspI", entries.join(&b',')), (b"Mtsq", body)])])
+}
+
 fn frere_jacques() -> Vec<u8> {
     let mut body = Body::default();
-    let mut entries = Vec::new();
-    for (letter, line) in (b'a'..).zip(JACQUES) {
+    let mut lines = Vec::new();
+    for line in JACQUES {
         let from = body.pause();
         body.melody(0, line);
-        entries.push(phrase(letter, from, body.pause()));
+        lines.push((from, body.pause()));
     }
-    entries.push(b"SL:aabbccdd".to_vec());
-    let parts = [(b"MspI", entries.join(&b',')), (b"Mtsq", body.ended())];
-    file(&[score(PHRASES, TEN, &parts)])
+    song(b"abcd", &lines, b"aabbccdd", body.ended())
+}
+
+const DOTTED: u32 = QUARTER + EIGHTH;
+
+/// An American round, line by line; each lasts four dotted quarters.
+fn boat() -> [Vec<(u8, u32)>; 4] {
+    [
+        vec![(60, DOTTED), (60, DOTTED), (60, QUARTER), (62, EIGHTH), (64, DOTTED)],
+        vec![(64, QUARTER), (62, EIGHTH), (64, QUARTER), (65, EIGHTH), (67, 2 * DOTTED)],
+        [72, 67, 64, 60].map(|key| [(key, EIGHTH); 3]).concat(),
+        vec![(67, QUARTER), (65, EIGHTH), (64, QUARTER), (62, EIGHTH), (60, 2 * DOTTED)],
+    ]
+}
+
+/// The round for singing along, an end mark after each line: where the lines start and stop, and the body.
+fn marked_lines() -> (Vec<(u32, u32)>, Vec<u8>) {
+    let mut body = Body::default();
+    let mut lines = Vec::new();
+    for line in boat() {
+        let from = body.pause();
+        body.melody(0, &line);
+        lines.push((from, body.pause()));
+        body.mark();
+    }
+    (lines, body.bytes)
+}
+
+fn karaoke() -> Vec<u8> {
+    let (lines, body) = marked_lines();
+    song(b"abcd", &lines, b"abcdcd", body)
+}
+
+fn karaoke_without_points() -> Vec<u8> {
+    file(&[score(STREAM, TEN, &[(b"Mtsq", marked_lines().1)])])
+}
+
+/// The phrase of `S` is the third line and the fourth, with the mark between them.
+fn stopped_order() -> Vec<u8> {
+    let (lines, body) = marked_lines();
+    let last_two = (lines[2].0, lines[3].1);
+    song(b"abS", &[lines[0], lines[1], last_two], b"abSab", body)
 }
 
 fn scale_on_four_channels() -> Vec<u8> {
@@ -263,6 +314,19 @@ fn waves() -> Vec<u8> {
     file(&[chunk(b"ATR\0", &track)])
 }
 
+/// In the layout of FFmpeg's muxer: one wave, a NOP when it is over, and zeros up to sixteen bytes, which are two end marks. The wave has 4,000 samples
+/// a second, two in a byte, so that it lasts 150 steps of 4 milliseconds.
+fn another_makers_file() -> Vec<u8> {
+    let mut sequence = vec![0x00, 0x01, 0x80, 0x16, 0x80, 0x16, 0xFF, 0x00];
+    sequence.resize(16, 0);
+    let wave = [[0x33; 4], [0xBB; 4]].concat().repeat(150);
+    let mut track = vec![0, STREAM, 0x10, 0x00, 0x02, 0x02];
+    track.extend(chunk(b"Atsq", &sequence));
+    track.extend(chunk(b"Awa\x01", &wave));
+    let contents = chunk(b"CNTI", &[0, 1, 1, 0, 0]);
+    whole_file(&[contents, chunk(b"ATR\0", &track)].concat())
+}
+
 fn long_rests() -> Vec<u8> {
     let mut body = Body::default();
     body.note(0, 69, QUARTER);
@@ -326,17 +390,21 @@ fn bad_duration() -> Vec<u8> {
 }
 
 pub fn all() -> Vec<Tune> {
-    let tunes: [(&'static str, Vec<u8>); 19] = [
+    let tunes: [(&'static str, Vec<u8>); 23] = [
         ("worked", worked_tune()),
         ("ode_to_joy", ode_to_joy()),
         ("second_line", second_line()),
         ("frere_jacques", frere_jacques()),
         ("round_of_four", round_of_four()),
+        ("karaoke", karaoke()),
+        ("karaoke_without_points", karaoke_without_points()),
+        ("stopped_order", stopped_order()),
         ("scale_on_four_channels", scale_on_four_channels()),
         ("octave_shifts", octave_shifts()),
         ("short_forms", short_forms()),
         ("exclusives", exclusives()),
         ("waves", waves()),
+        ("another_makers_file", another_makers_file()),
         ("long_rests", long_rests()),
         ("empty_order", phrase_track(b",SL:")),
         ("after_closed_tracks", after_closed_tracks()),

@@ -113,10 +113,31 @@ fn three_zeros() {
     assert_eq!(score_fault(&[&NOTE[..], &[0; 3]].concat()), (23, 5));
 }
 
+/// A fault behind an end mark is told as that fault, at its own byte.
 #[test]
-fn what_follows_an_end_mark_is_not_looked_at() {
-    for rest in [&[0x00][..], &[0xFF, 0x80], &[0x05, 0x0D, 0x01], &[0, 0, 0], &NOTE] {
-        assert_eq!(score_fault(&[&[0; 4], rest].concat()), (11, 4));
+fn what_follows_an_end_mark_is_read() {
+    let behind: [(&[u8], (u32, usize)); 6] = [
+        (&[0x00], (20, 5)),
+        (&[0xFF, 0x80], (23, 5)),
+        (&[0x05, 0x0D, 0x01], (21, 5)),
+        (&[0x05, 0xFF, 0x01], (22, 6)),
+        (&[0x00, 0x29, 0x00], (21, 6)),
+        (&NOTE, (0, 0)),
+    ];
+    for (rest, (number, place)) in behind {
+        assert_eq!(score_fault(&[&[0; 4], rest].concat()), (number, place));
+        let later = [&NOTE[..], &[0; 8], rest].concat();
+        let place = if number == 0 { 0 } else { place + 7 };
+        assert_eq!(score_fault(&later), (number, place), "{later:02x?}");
+    }
+}
+
+#[test]
+fn zeros_in_a_row() {
+    let told = [(11, 0), (20, 1), (20, 2), (23, 2), (0, 0), (20, 5), (20, 6), (23, 6), (0, 0)];
+    for (count, fault) in told.into_iter().enumerate() {
+        assert_eq!(score_fault(&vec![0; count]), fault, "{count} zeros");
+        assert_eq!(pcm_fault(&vec![0; count]), fault, "{count} zeros");
     }
 }
 
@@ -130,6 +151,7 @@ fn after_setup_and_before_seek() {
 
 #[test]
 fn generated_faults_stand_where_they_were_put() {
+    let (mut all, mut behind_marks) = (0, 0);
     for cell in cells() {
         for number in 0..60 {
             let mut random = Random::for_index(9, number);
@@ -141,8 +163,13 @@ fn generated_faults_stand_where_they_were_put() {
             if cell.position != Position::Last || !is_cut(cell.clause) {
                 assert_eq!(cell.position == Position::First, told < plan.items[0].len());
             }
+            let mut placed = plan.items.iter().zip(plan.addresses());
+            all += 1;
+            behind_marks +=
+                u32::from(placed.any(|(item, at)| *item == MARK && (at as usize) < told));
         }
     }
+    assert!(4 * behind_marks > all, "{behind_marks} of {all} stand behind an end mark");
 }
 
 #[test]

@@ -7,12 +7,13 @@ use second::clauses::{count, missing};
 use second::file::open;
 use second::generate::damage::{damaged, file_clauses};
 use second::generate::file::FilePlan;
-use second::generate::{all_pitches, case};
-use second::plain::flatten;
+use second::generate::{all_pitches, any_file, case};
+use second::plain::{flatten, plain_length};
 use second::play::Performance;
 use second::random::Random;
 use second::refusal::Clause;
 use second::soak::soak;
+use second::track::Track;
 use second::tune::worked_tune;
 
 #[test]
@@ -98,6 +99,56 @@ fn answers_hold_together() {
     assert!(tally.flattened > 1_000);
 }
 
+/// The only track of the large file in that slot, by its number.
+fn large_track(slot: u64, number: u64) -> Track {
+    let mut random = Random::for_index(slot, number);
+    let file = any_file(&mut random, Operation::Play, slot);
+    open(&file, file.len() as u32).unwrap().tracks.remove(0).1
+}
+
+/// Lists whose first, a middle and last letter reaches an end mark, as far as
+/// `sp` lets them.
+#[test]
+fn long_lists_are_stopped() {
+    for (slot, first, last) in [(757, 1, 1), (2_507, 2, 60_000), (3_757, 10_000, 66_000)] {
+        let mut accepted = 0;
+        for number in 0..20 {
+            let track = large_track(slot, number);
+            let performance = Performance::of(&track).unwrap();
+            accepted += u32::from(performance.message_count() <= 70_000);
+            let letters = performance.order.len();
+            let stops = |index: &usize| performance.sections[*index].stops;
+            if track.seek.stop.is_none() {
+                assert!(performance.order.last().is_some_and(stops));
+                assert!(first <= letters && letters <= last, "{letters} letters");
+                let list = track.seek.list_length() as usize;
+                assert_eq!(letters == list, slot == 3_757);
+            }
+        }
+        assert!(accepted >= 5, "{accepted} accepted");
+    }
+}
+
+/// Stopped or not, these lists come to the numbers that they are made for.
+#[test]
+fn stopped_lists_keep_their_numbers() {
+    let mut stopped = 0;
+    for number in 0..20 {
+        for (slot, rows) in [(507, 4_097..=4_098), (3_507, 4_094..=4_096)] {
+            let track = large_track(slot, number);
+            let performance = Performance::of(&track).unwrap();
+            stopped += u32::from(performance.sections.iter().any(|section| section.stops));
+            assert!(rows.contains(&performance.message_count()));
+        }
+        for (slot, bytes) in [(250, 65_537..=65_538), (2_250, 65_534..=65_536)] {
+            let track = large_track(slot, number);
+            let performance = Performance::of(&track).unwrap();
+            assert!(bytes.contains(&plain_length(&performance, &track.sequence)));
+        }
+    }
+    assert!(10 < stopped && stopped < 30, "{stopped} stopped");
+}
+
 #[test]
 fn wrong_plain_forms_are_found() {
     let tune = worked_tune();
@@ -118,6 +169,11 @@ fn wrong_plain_forms_are_found() {
     assert_eq!(changed(6, 0x15), "the plain form plays something else");
     assert_eq!(changed(4, 0x0B), "the plain form ends elsewhere");
     assert!(changed(5, 0x2D).starts_with("the plain form is no sequence"));
+    let other_marks = "the plain form has other end marks";
+    let marked_first = [&[0; 4], &plain[4..]].concat();
+    assert_eq!(check(&marked_first).unwrap_err(), other_marks);
+    let unmarked = [&plain[..23], &[0x80, 0x00, 0xFF, 0x00]].concat();
+    assert_eq!(check(&unmarked).unwrap_err(), other_marks);
 }
 
 #[test]

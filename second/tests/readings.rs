@@ -41,12 +41,6 @@ fn place_of_bad_setup_message() {
 }
 
 #[test]
-fn bytes_after_end_mark() {
-    assert_eq!(refusal(&score(STREAM, &[(b"Mtsq", &[0; 5])])), (11, 47));
-    assert_eq!(refusal(&score(STREAM, &[(b"Mtsq", &[0; 8])])), (11, 47));
-}
-
-#[test]
 fn commas_start_entries() {
     let start = point(b"st", 0);
     assert_eq!(with_seek(STREAM, &[&start[..], b",,"].concat()), (12, 51));

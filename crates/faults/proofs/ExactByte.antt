@@ -16,7 +16,11 @@ use Rattle.faults.proofs.Faulty.{faulty, before-begins, none-begins}
 
 -- a body is refused with 11, 20, 21, 22 or 23
 pub refused-with : (voice : Voice) (s : List ℕ) (number place : ℕ) → bodyOf voice s ≡ refused number place → (number ≡ 11) ⊎ ((20 ≤ number) × (number ≤ 23))
-refused-with voice s number place e = ⊎-map (λ h. h) (λ f. (f .ahead .0, f .ahead .1)) (faulty voice s number place e)
+refused-with voice s number place e = ⊎-map (λ h. h .1) (λ f. (f .ahead .0, f .ahead .1)) (faulty voice s number place e)
+
+-- 11: there is nothing in it
+pub refused-as-empty : (voice : Voice) (s : List ℕ) (place : ℕ) → bodyOf voice s ≡ refused 11 place → (length s ≡ 0) × (place ≡ 0)
+refused-as-empty voice s place e = ⊎-elim (λ h. (h .0, h .2)) (λ f. absurd (omega (arith, f .ahead))) (faulty voice s 11 place e)
 
 -- 20: nothing is wrong but that bytes are missing after the last
 pub cut-short : (voice : Voice) (s : List ℕ) (place : ℕ) → bodyOf voice s ≡ refused 20 place → (place ≡ length s) × Beginning voice s

@@ -3,7 +3,7 @@
 use Prim.Native.Nat.{ℕ, _+_, _<_, _≤_}
 use mathlib.Core.Bool.{true}
 use mathlib.Core.List.{List, [], _∷_, _++_, append-nil}
-use mathlib.Core.Logic.{_⊎_, inl, inr, ⊎-elim}
+use mathlib.Core.Logic.{_⊎_, inl, inr, ⊎-elim, ⊎-map}
 use mathlib.Core.Path.{_≡_, sym, _∙_, ap, subst}
 use lib.ListN.{length, take, length-append}
 use lib.Seq.{length-take-le}
@@ -21,7 +21,7 @@ use Rattle.faults.proofs.Agreement.{Agree, agree-fewer, Continued, cont
 use Rattle.faults.proofs.Exact.{Seen.ends, Wrong, Fault}
 use Rattle.faults.proofs.Timed.{itemSeen, timedAt}
 use Rattle.faults.proofs.Items.{zeros-refused, Zeros, zeros-read, ends-read, refused-or-zeros, refused-exact}
-use Rattle.faults.proofs.Reached.{Reached, reached-stays, reached-fine, ended-fine, refused-not-fine, body-told}
+use Rattle.faults.proofs.Reached.{Reached, reached-stays, reached-fine, ended-fine, refused-not-fine, Empty, body-told}
 
 module _ (voice : Voice) (s : List ℕ) where
   pub record Faulty (number place : ℕ) : Type 0 where
@@ -31,19 +31,18 @@ module _ (voice : Voice) (s : List ℕ) where
     pub ahead : ItemAhead at (length s) (Refused number place)
     pub fault : Fault itemSeen s (λ t. timedAt voice t at) (λ t. timedAt voice t at) at (Refused number place) number place
 
-  pub faulty : (number place : ℕ) → bodyOf voice s ≡ refused number place → (number ≡ 11) ⊎ Faulty number place
-  faulty number place e = go (body-told voice s number place e)
-    where
-      go : (number ≡ 11) ⊎ ((at : ℕ) × Reached voice s at × (at < length s) × (itemAt voice s at ≡ Refused number place)) → (number ≡ 11) ⊎ Faulty number place
-      go (inl h) = inl h
-      go (inr f) =
-          inr (record {
-            at = f .0;
-            reached = f .1;
-            here = f .2;
-            ahead = subst (ItemAhead (f .0) (length s)) (f .3) (item-ahead voice s (f .0));
-            fault = refused-exact voice s (f .0) (f .2) number place (f .3);
-          })
+  pub faulty : (number place : ℕ) → bodyOf voice s ≡ refused number place → Empty voice s number place ⊎ Faulty number place
+  faulty number place e =
+      ⊎-map (λ h. h)
+      (λ f.
+      record {
+        at = f .0;
+        reached = f .1;
+        here = f .2;
+        ahead = subst (ItemAhead (f .0) (length s)) (f .3) (item-ahead voice s (f .0));
+        fault = refused-exact voice s (f .0) (f .2) number place (f .3);
+      })
+      (body-told voice s number place e)
 
   module _ (number place : ℕ) (f : Faulty number place) where
     past : f .at ≤ place

@@ -13,11 +13,8 @@ use Rattle.model.specs.Duration.{durationAt}
 use Rattle.model.specs.Event.{shortAt, formed, controlAt, eventAt}
 use Rattle.model.specs.Item.{isEndMark, withEvent, withDuration, itemAt}
 use Rattle.model.specs.declared.Voice.{Voice}
-use Rattle.model.specs.declared.Event.{Event}
-use Rattle.model.specs.declared.ReadDuration.the-variants as duration
-use Rattle.model.specs.declared.ReadEvent.the-variants as event
 use Rattle.model.specs.declared.ReadItem.{ReadItem}
-use Rattle.model.specs.declared.ReadItem.the-variants.{Timed, EndMark, Refused}
+use Rattle.model.specs.declared.ReadItem.the-variants.{EndMark, Refused}
 use Rattle.model.proofs.Tests.{by-test, if-true, if-false, and-left, and-right}
 use Rattle.faults.proofs.Agreement.{Agree}
 use Rattle.faults.proofs.Exact.{Seen.ends, Seen.fails, Fault, ExactAs}
@@ -69,11 +66,7 @@ module _ (voice : Voice) (s : List ℕ) (at : ℕ) where
   unfolding itemAt
   unmarked h = if-false _ _ _ h
 
-  -- what is no end mark, and what cannot be three zeros
-
-  no-mark : (r : ReadItem) → itemAt voice s at ≡ r → (EndMark (at + 4) ≡ r → ⊥) → timedAt voice s at ≡ r
-  no-mark r e other = by-test (isEndMark s at) (λ h. absurd (other (sym (marked h) ∙ e))) (λ h. sym (unmarked h) ∙ e)
-
+  -- what cannot be three zeros
   no-zeros : (timedAt voice s at ≡ Refused 23 (at + 2) → ⊥) → itemAt voice s at ≡ timedAt voice s at
   no-zeros other =
       by-test (isEndMark s at)
@@ -91,20 +84,46 @@ module _ (voice : Voice) (s : List ℕ) (at : ℕ) where
   pub refused-or-zeros : (number place : ℕ) → timedAt voice s at ≡ Refused number place → (itemAt voice s at ≡ Refused number place) ⊎ Zeros s at
   refused-or-zeros number place e = by-test (isEndMark s at) (λ h. inr (mark-zeros s at h)) (λ h. inl (unmarked h ∙ e))
 
--- An item that is read is read no differently where other bytes follow, and a refused one is refused exactly.
+-- What is read is read no differently where other bytes follow, end mark or not, and what is refused is refused exactly.
 module _ (voice : Voice) (s : List ℕ) (at : ℕ) (here : at < length s) where
-  read-exact : (r : ReadItem) → itemAt voice s at ≡ r → (EndMark (at + 4) ≡ r → ⊥)
-      → ExactAs itemSeen s (λ t. timedAt voice t at) (λ t. timedAt voice t at) at r (itemSeen r)
-  read-exact r e other =
-      subst (λ (v : ReadItem). ExactAs itemSeen s (λ t. timedAt voice t at) (λ t. timedAt voice t at) at v (itemSeen v)) (no-mark voice s at r e other)
-      (timed-exact voice s at here .exactly)
-
-  pub timed-stays : (duration next : ℕ) (event : Event) → itemAt voice s at ≡ Timed duration event next → (t : List ℕ) → Agree next s t
-      → itemAt voice t at ≡ Timed duration event next
-  timed-stays duration next event e t a =
-      let same = read-exact (Timed duration event next) e (λ q. let w : _≡_ {A = ℕ} 0 1 = cc in omega arith) .1 t a in
-      no-zeros voice t at (λ z. let w : _≡_ {A = ℕ} 0 1 = cc in omega arith) ∙ same
+  pub read-stays : (next : ℕ) → itemSeen (itemAt voice s at) ≡ ends next → (t : List ℕ) → Agree next s t → itemAt voice t at ≡ itemAt voice s at
+  read-stays next e t a =
+      by-test (isEndMark s at)
+      (λ h.
+      let is = marked voice s at h in
+      let z = mark-zeros s at h in
+      let four : ends (at + 4) ≡ ends next = ap itemSeen (sym is) ∙ e in
+      let last : at + 4 ≡ next = cc in
+      zeros-read voice t at
+      (record {
+        room = omega (arith, a .room);
+        first = a .same at (omega arith) ∙ z .first;
+        second = a .same (at + 1) (omega arith) ∙ z .second;
+        third = a .same (at + 2) (omega arith) ∙ z .third;
+        fourth = a .same (at + 3) (omega arith) ∙ z .fourth;
+      })
+      ∙ sym is)
+      (λ h.
+      let is = unmarked voice s at h in
+      let timed : itemSeen (timedAt voice s at) ≡ ends next = ap itemSeen (sym is) ∙ e in
+      let same =
+      subst (ExactAs itemSeen s (λ u. timedAt voice u at) (λ u. timedAt voice u at) at (timedAt voice s at)) timed (timed-exact voice s at here .exactly) .1 t a in
+      no-zeros voice t at
+      (λ z.
+      let fault : fails 23 (at + 2) ≡ ends next = ap itemSeen (sym z ∙ same) ∙ timed in
+      let w : _≡_ {A = ℕ} 0 1 = cc in
+      omega arith)
+      ∙ same
+      ∙ sym is)
 
   pub refused-exact : (number place : ℕ) → itemAt voice s at ≡ Refused number place
       → Fault itemSeen s (λ t. timedAt voice t at) (λ t. timedAt voice t at) at (Refused number place) number place
-  refused-exact number place e = read-exact (Refused number place) e (λ q. let w : _≡_ {A = ℕ} 0 1 = cc in omega arith)
+  refused-exact number place e =
+      subst (λ (r : ReadItem). ExactAs itemSeen s (λ t. timedAt voice t at) (λ t. timedAt voice t at) at r (itemSeen r))
+      (by-test (isEndMark s at)
+      (λ h.
+      let both : EndMark (at + 4) ≡ Refused number place = sym (marked voice s at h) ∙ e in
+      let w : _≡_ {A = ℕ} 0 1 = cc in
+      absurd (omega arith))
+      (λ h. sym (unmarked voice s at h) ∙ e))
+      (timed-exact voice s at here .exactly)

@@ -1,18 +1,18 @@
 -- FLATTENED FROM ITS BODIES: what a track's order writes is the plain form of what the track plays, 17 where there is no order. For phrases
--- by the plan of the letters, for a stream by its one span.
+-- by the spans of the letters up to where playing stops, for a stream by its one span.
 use Prim.Native.Nat.{ℕ, _+_, _<_, _≤_}
 use mathlib.Core.Bool.{true, false}
-use mathlib.Core.List.{List, [], _∷_, map, append-nil}
+use mathlib.Core.List.{List, [], _∷_, _++_, map}
 use mathlib.Core.Option.{none, some}
-use mathlib.Core.Path.{_≡_, refl, sym, _∙_, ap, ap₂}
-use lib.ListN.{length, replicate}
+use mathlib.Core.Path.{_≡_, refl, sym, _∙_, ap, ap₂, subst}
+use lib.ListN.{length, take, replicate}
 use native.Mathlib.Nat.{zero-add}
 use native.Mathlib.Omega.{arith}
 use Rattle.model.specs.Words.{sum, _otherwise_, Checked.refused}
 use Rattle.model.specs.Bytes.{_!_}
 use Rattle.model.specs.Item.{itemsOf}
 use Rattle.model.specs.Seek.{startPoint, stopPoint}
-use Rattle.model.specs.Play.{At, Section, playedFrom, sounding, tuneOf, retold}
+use Rattle.model.specs.Play.{At, Section, Tune, playedFrom, allPlayed, tuneOf, retold}
 use Rattle.model.specs.Word.{isMessage}
 use Rattle.model.specs.Order.{streamSection, orderOf}
 use Rattle.model.specs.Plain.{bytesOf, plainAfter, plainItems, plainForm}
@@ -21,26 +21,28 @@ use Rattle.model.specs.Answer.{flattenAnswer, flattenRoom}
 use Rattle.model.specs.declared.Voice.{Voice}
 use Rattle.model.specs.declared.Event.{Event}
 use Rattle.model.specs.declared.Span.{Span}
+use Rattle.model.specs.declared.FoundSpans.{FoundSpans}
 use Rattle.model.specs.declared.FlattenAnswer.{FlattenAnswer}
 use Rattle.model.specs.declared.FlattenAnswer.the-variants as flatten
-use Rattle.sections.specs.Spans.{Items, onsets, spanOf, spanRows, Playable, Small, Rising}
+use Rattle.sections.specs.Spans.{Items, spanOf, spanRows, Playable, Small, SpanRises}
 use Rattle.sections.proofs.Stretches.{span-sounds}
 use Rattle.sections.proofs.Tunes.{stream-section-rises}
-use Rattle.playing.specs.Performing.{entriesSaid, Ready, spanAt, letterSection, AllPlayable, AllShort, lastsTogether, rowsTogether, Found, AllRise}
-use Rattle.playing.proofs.Together.{letters-playable, letters-last, letters-sound, span-rises, letters-rise}
+use Rattle.sections.proofs.WholeStream.{played-alone}
+use Rattle.playing.specs.Performing.{entriesSaid, Ready, spanAt, letterSection, Spanned, AllPlayable, AllShort, AllRise, lastsTogether, rowsTogether, tuneTogether, Heard, Found}
+use Rattle.playing.proofs.Bounded.{span-rises}
+use Rattle.playing.proofs.Together.{together-is}
 use Rattle.flattening.specs.Parts.{told}
 use Rattle.flattening.specs.Orders.{orderBytes, fitted}
 use Rattle.flattening.specs.Flattening.{sectionsPlain, flattened, bodiesFlattened}
 use Rattle.flattening.proofs.Flattened.{refused-answer, refused-room}
 
--- what is written of spans that play what sections play, as long, is the plain form of the sections
+-- what is written of spans that play what sections play is the plain form of the sections
 order-plain : (body : List ℕ) (items : Items) (spans : List Span) (letters : List ℕ) (sections : List Section)
-    → rowsTogether items spans 0 letters ≡ playedFrom isMessage (onsets 0 items) 0 sections
-    → lastsTogether spans letters ≡ sum (map (λ section. section .lasts) sections)
-    → orderBytes body items spans 0 0 letters ≡ sectionsPlain body items sections
-unfolding orderBytes told sectionsPlain plainForm plainItems retold tuneOf
-order-plain body items spans letters sections plays lasts =
-    ap₂ (λ (rows : List (At Event)) (end : ℕ). bytesOf handyPhone (plainAfter handyPhone 0 (told body rows) end)) plays (zero-add _ ∙ lasts)
+    → tuneTogether items spans letters ≡ tuneOf isMessage items sections → orderBytes body items spans 0 0 letters ≡ sectionsPlain body items sections
+unfolding orderBytes told sectionsPlain plainForm plainItems retold tuneTogether
+order-plain body items spans letters sections plays =
+    ap (λ (end : ℕ). bytesOf handyPhone (plainAfter handyPhone 0 (told body (rowsTogether items spans 0 letters)) end)) (zero-add _)
+    ∙ ap (λ (tune : Tune Event). bytesOf handyPhone (plainAfter handyPhone 0 (told body (tune .messages)) (tune .end))) plays
 
 module _ (voice : Voice) (header : ℕ) (body seek room : List ℕ) where
   abbrev items : Items
@@ -58,37 +60,47 @@ module _ (voice : Voice) (header : ℕ) (body seek room : List ℕ) where
     pub unordered-room : room ≡ flattenRoom room (bodiesFlattened voice true header (length room) body seek)
     unordered-room = refused-room _ 17 header no-order room
 
-  -- PHRASES, by the plan of the letters
-  module _ (ready : Ready voice true body seek) (letters : List ℕ)
-      (spans : List Span) (found : Found (itemsOf voice body) (length body) (entriesSaid true seek) letters spans) where
-    pub phrases-playable : AllPlayable (itemsOf voice body) (length body) spans letters
-    phrases-playable = letters-playable items (length body) (entriesSaid true seek) spans letters (found .are)
+  -- PHRASES, by the spans of the letters up to where playing stops
+  module _ (ready : Ready voice true body seek) (letters : List ℕ) (found : FoundSpans)
+      (finds : Found (itemsOf voice body) (length body) (entriesSaid true seek) letters found) where
+    pub phrases-within : found .letters ≤ length letters
+    phrases-within = finds .within
 
-    pub phrases-short : AllShort spans letters
-    phrases-short = found .short
+    module _ (front : List ℕ) (are : front ≡ take (found .letters) letters) where
+      heard : Heard items (length body) (found .spans) front
+      heard = subst (Heard items (length body) (found .spans)) (sym are) (finds .heard)
 
-    pub phrases-rise : AllRise (itemsOf voice body) spans letters
-    phrases-rise = letters-rise voice body (ready .reads) (entriesSaid true seek) spans letters (found .are)
+      pub phrases-few : length front ≤ 65536
+      phrases-few = heard .listed
 
-    module _ (order : orderOf true (itemsOf voice body) (entriesSaid true seek) ≡ some (map (letterSection (itemsOf voice body) (entriesSaid true seek)) letters)) where
-      phrases-are : fitted header (length room) (orderBytes body items spans 0 0 letters) ≡ bodiesFlattened voice true header (length room) body seek
-      unfolding bodiesFlattened flattened
-      phrases-are =
-          ap (fitted header (length room))
-          (order-plain body items spans letters (map (letterSection items (entriesSaid true seek)) letters)
-          (letters-sound voice body (ready .reads) (entriesSaid true seek) spans 0 letters (found .are))
-          (letters-last items (length body) (entriesSaid true seek) spans letters (found .are)))
-          ∙ sym (rw order refl)
+      pub phrases-playable : AllPlayable (itemsOf voice body) (length body) (found .spans) front
+      phrases-playable = heard .playable
 
-      pub phrases-answer : (r : FlattenAnswer)
-          → r ≡ flattenAnswer (fitted header (length room) (orderBytes body (itemsOf voice body) spans 0 0 letters))
-          → r ≡ flattenAnswer (bodiesFlattened voice true header (length room) body seek)
-      phrases-answer r e = e ∙ ap flattenAnswer phrases-are
+      pub phrases-short : AllShort (found .spans) front
+      phrases-short = heard .short
 
-      pub phrases-room : (m : List ℕ)
-          → m ≡ flattenRoom room (fitted header (length room) (orderBytes body (itemsOf voice body) spans 0 0 letters))
-          → m ≡ flattenRoom room (bodiesFlattened voice true header (length room) body seek)
-      phrases-room m e = e ∙ ap (flattenRoom room) phrases-are
+      pub phrases-rise : AllRise (itemsOf voice body) (found .spans) front
+      phrases-rise = heard .rise
+
+      module _ (order : orderOf true (itemsOf voice body) (entriesSaid true seek) ≡ some (map (letterSection (itemsOf voice body) (entriesSaid true seek)) letters)) where
+        phrases-are : fitted header (length room) (orderBytes body items (found .spans) 0 0 front) ≡ bodiesFlattened voice true header (length room) body seek
+        unfolding bodiesFlattened flattened
+        phrases-are =
+            ap (fitted header (length room))
+            (order-plain body items (found .spans) front (map (letterSection items (entriesSaid true seek)) letters)
+            (together-is voice body (ready .reads) (entriesSaid true seek) (found .spans) letters front (are ∙ finds .are)
+            (subst (Spanned items (length body) (entriesSaid true seek) (found .spans)) (sym are) (finds .spanned))))
+            ∙ sym (rw order refl)
+
+        pub phrases-answer : (r : FlattenAnswer)
+            → r ≡ flattenAnswer (fitted header (length room) (orderBytes body (itemsOf voice body) (found .spans) 0 0 front))
+            → r ≡ flattenAnswer (bodiesFlattened voice true header (length room) body seek)
+        phrases-answer r e = e ∙ ap flattenAnswer phrases-are
+
+        pub phrases-room : (m : List ℕ)
+            → m ≡ flattenRoom room (fitted header (length room) (orderBytes body (itemsOf voice body) (found .spans) 0 0 front))
+            → m ≡ flattenRoom room (bodiesFlattened voice true header (length room) body seek)
+        phrases-room m e = e ∙ ap (flattenRoom room) phrases-are
 
   -- A STREAM, by its one span
   module _ (ready : Ready voice false body seek) (span : Span)
@@ -109,17 +121,20 @@ module _ (voice : Voice) (header : ℕ) (body seek room : List ℕ) where
     pub stream-rise : AllRise (itemsOf voice body) (replicate 256 span) (replicate 1 0)
     stream-rise =
         one-letter
-        (λ letter. (before : ℕ) → Rising before (before + spanAt (replicate 256 span) letter .lasts) (spanRows items (spanAt (replicate 256 span) letter) before))
+        (λ letter. SpanRises items (spanAt (replicate 256 span) letter))
         (span-rises voice body (ready .reads) section (stream-section-rises items (startPoint (entriesSaid false seek) otherwise 0) (stopPoint (entriesSaid false seek))) span is)
 
+    -- one letter plays what the section does
+    stream-tune : tuneTogether items (replicate 256 span) (replicate 1 0) ≡ tuneOf isMessage items (section ∷ [])
+    unfolding tuneTogether rowsTogether lastsTogether allPlayed playedFrom sum spanOf
+    stream-tune =
+        ap₂ (λ (messages : List (At Event)) (end : ℕ). record { messages = messages ++ []; end = end + 0 })
+        (ap (λ (one : Span). spanRows items one 0) is ∙ span-sounds voice body (ready .reads) section 0) (ap (λ (one : Span). one .lasts) is)
+        ∙ sym (played-alone items section)
+
     stream-are : fitted header (length room) (orderBytes body items (replicate 256 span) 0 0 (replicate 1 0)) ≡ bodiesFlattened voice false header (length room) body seek
-    unfolding bodiesFlattened flattened orderOf rowsTogether playedFrom lastsTogether sum spanOf
-    stream-are =
-        ap (fitted header (length room))
-        (order-plain body items (replicate 256 span) (replicate 1 0) (section ∷ [])
-        (append-nil (spanRows items span 0) ∙ ap (λ (one : Span). spanRows items one 0) is ∙ span-sounds voice body (ready .reads) section 0
-        ∙ sym (append-nil (sounding isMessage (onsets 0 items) 0 section)))
-        (ap (λ (one : Span). one .lasts + 0) is))
+    unfolding bodiesFlattened flattened orderOf
+    stream-are = ap (fitted header (length room)) (order-plain body items (replicate 256 span) (replicate 1 0) (section ∷ []) stream-tune)
 
     pub stream-answer : (r : FlattenAnswer)
         → r ≡ flattenAnswer (fitted header (length room) (orderBytes body (itemsOf voice body) (replicate 256 span) 0 0 (replicate 1 0)))
@@ -131,4 +146,4 @@ module _ (voice : Voice) (header : ℕ) (body seek room : List ℕ) where
         → m ≡ flattenRoom room (bodiesFlattened voice false header (length room) body seek)
     stream-room m e = e ∙ ap (flattenRoom room) stream-are
 
-pub ruleset track-flattened = (unordered-answer, unordered-room, phrases-playable, phrases-short, phrases-rise, phrases-answer, phrases-room, stream-playable, stream-short, stream-rise, stream-answer, stream-room)
+pub ruleset track-flattened = (unordered-answer, unordered-room, phrases-within, phrases-few, phrases-playable, phrases-short, phrases-rise, phrases-answer, phrases-room, stream-playable, stream-short, stream-rise, stream-answer, stream-room)

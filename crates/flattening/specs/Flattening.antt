@@ -1,7 +1,7 @@
 -- What the operation speaks of beside the definitions of the model: the plain form of a track, from its bodies and from its row.
 use Prim.Native.Nat.{ℕ}
 use mathlib.Core.Bool.{Bool}
-use mathlib.Core.List.{List, map}
+use mathlib.Core.List.{List}
 use mathlib.Core.Option.{Option, none, some}
 use lib.ListN.{length}
 use Rattle.model.specs.Words.{if_then_else_, _or_, _<?_, Checked, Checked.fine, Checked.refused, passed, _>>=_, _>>_}
@@ -21,7 +21,7 @@ use Rattle.flattening.specs.Orders.{fitted}
 -- the plain form of the sections of a body
 unfoldable pub sectionsPlain : List ℕ → Items → List Section → List ℕ
 sectionsPlain body items sections =
-    plainForm handyPhone (retold (contentOf body) (tuneOf isMessage (map (λ item. item .what) items) sections))
+    plainForm handyPhone (retold (contentOf body) (tuneOf isMessage items sections))
 
 -- 17 where there is no order, then 18, at the track's header
 unfoldable pub flattened : ℕ → ℕ → List ℕ → Items → Option (List Section) → Checked (List ℕ)

@@ -46,8 +46,16 @@ fn flatten_letters(
     ensures { λ r. ⌜ r ≡ flattenAnswer (bodiesFlattened voice true header (length (now (room .entry))) (now (body .entry)) (now (seek .entry))) ⌝ }
     ensures { λ _. ⌜ now (room .exit) ≡ flattenRoom (now (room .entry)) (bodiesFlattened voice true header (length (now (room .entry))) (now (body .entry)) (now (seek .entry))) ⌝ }
 {
-    let spans = playing::find_spans(voice, body, seek, letters);
-    flatten_order(voice, header, body, spans, letters, room)
+    let found = playing::find_spans(voice, body, seek, letters);
+    let spans = found.spans;
+    flatten_order(
+        voice,
+        header,
+        body,
+        spans,
+        playing::letters_heard(letters, found.letters),
+        room,
+    )
 }
 
 pub fn flatten_phrases(

@@ -20,7 +20,7 @@ use Rattle.model.proofs.Tests.{if-all, both-true}
 use Rattle.writing.proofs.ContentFits.{HasBytes, content-fits}
 use Rattle.writing.proofs.Listed.{with-item, given}
 use Rattle.writing.proofs.Answers.{fills, filled-memory}
-use Rattle.inverse.proofs.Sequence.{AllFit, MarkLast}
+use Rattle.inverse.proofs.Sequence.{AllFit}
 use Rattle.inverse.proofs.WrittenReads.{sequence-reads}
 
 word-bytes : (word : ℕ) → HasBytes (eventIn word)
@@ -35,7 +35,6 @@ word-bytes word =
 record IsSequence (voice : Voice) (all : List (Item Content)) : Type 0 where
   some-items : 0 < length all
   fit : AllFit voice all
-  marked : MarkLast all
 
 module _ (voice : Voice) (s : List ℕ) where
   first-given : (duration word : ℕ) (item : Item Content) (rest : List (Item Content)) → itemOf voice s duration (eventOfWord word) ≡ some item
@@ -48,14 +47,13 @@ module _ (voice : Voice) (s : List ℕ) where
       (record {
         some-items = omega arith;
         fit = (both-true (duration ≤? 16511) _ (le-leb duration 16511 (g .short)) (content-fits voice s (eventIn word) (word-bytes word) (g .fits)), r .fit);
-        marked = r .marked;
       })
 
   only-mark : (all : List (Item Content)) → items (endMark ∷ []) ≡ items all → IsSequence voice all
   unfolding itemFits
   only-mark all e =
       let is : endMark ∷ [] ≡ all = cc in
-      subst (IsSequence voice) is (record { some-items = omega arith; fit = (refl, tt); marked = refl })
+      subst (IsSequence voice) is (record { some-items = omega arith; fit = (refl, tt) })
 
   all-given : (durations words : List ℕ) (all : List (Item Content)) → sequenceOf voice s durations words ≡ items all → IsSequence voice all
   unfolding sequenceOf
@@ -78,7 +76,7 @@ module _ (voice : Voice) (source durations words memory : List ℕ) (size : ℕ)
   items-read-back =
       let f = fills memory (sequenceOf voice source durations words) size wrote in
       let is = all-given voice source durations words (f .all) (f .are) in
-      let back = sequence-reads voice (f .all) (is .some-items) (is .fit) (is .marked) in
+      let back = sequence-reads voice (f .all) (is .some-items) (is .fit) in
       let stored : take size (memoryAfterWrite memory (sequenceOf voice source durations words)) ≡ bytesOf handyPhone (f .all) =
       ap (take size) (filled-memory memory _ size f) ∙ front memory (bytesOf handyPhone (f .all)) size (f .room) (f .size) in
       (f .all, f .are, back .0, rw stored (back .1), rw stored (back .2))

@@ -16,9 +16,9 @@ use Rattle.model.specs.declared.Event.{Event}
 use Rattle.model.specs.declared.ReadItem.{ReadItem}
 use Rattle.model.specs.declared.ReadItem.the-variants.{Timed, EndMark, Refused}
 use Rattle.model.proofs.Walks.{Stand}
-use Rattle.items.proofs.Standing.{body-stands, body-passes, body-not-empty}
+use Rattle.items.proofs.Standing.{body-stands, body-not-empty}
 use Rattle.writing.proofs.WriteBack.{Written, timed-writes, mark-writes}
-use Rattle.inverse.proofs.Sequence.{AllFit, MarkLast, passes-marked}
+use Rattle.inverse.proofs.Sequence.{AllFit}
 
 module _ (voice : Voice) (s : List ℕ) (bytes : (k : ℕ) → s ! k < 256) where
   -- one item, as the walk through the body met it
@@ -60,9 +60,6 @@ module _ (voice : Voice) (s : List ℕ) (bytes : (k : ℕ) → s ! k < 256) wher
 
     pub body-fits : AllFit voice (contentsIn s placed)
     body-fits = stand-writes placed 0 (body-stands voice s placed reads) .0
-
-    pub body-marked : MarkLast (contentsIn s placed)
-    body-marked = passes-marked voice s placed [] 0 (body-stands voice s placed reads) (body-passes voice s placed reads)
 
     pub body-writes : bytesOf handyPhone (contentsIn s placed) ≡ s
     body-writes = stand-writes placed 0 (body-stands voice s placed reads) .1

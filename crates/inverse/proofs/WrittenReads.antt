@@ -17,7 +17,7 @@ use Rattle.items.proofs.Ahead.{item-goes}
 use Rattle.items.proofs.Standing.{body-reads-to}
 use Rattle.writing.proofs.Stands.{Stands, stands-first, stands-second, stands-between}
 use Rattle.writing.proofs.ReadBack.{Reads, stands-reads}
-use Rattle.inverse.proofs.Sequence.{AllFit, MarkLast, marked-passes}
+use Rattle.inverse.proofs.Sequence.{AllFit}
 
 abbrev Items : Type 0
 Items = List (Placed (Item Event))
@@ -48,13 +48,12 @@ module _ (voice : Voice) (s : List ℕ) where
   some-bytes [] h st = absurd (omega arith)
   some-bytes (item ∷ rest) h st = let g : GoesOn (length s) 0 (met item (st .0)) = subst (GoesOn (length s) 0) (st .1) (item-goes voice s 0) in omega arith
 
-pub sequence-reads : (voice : Voice) (items : List (Item Content)) → 0 < length items → AllFit voice items → MarkLast items
+pub sequence-reads : (voice : Voice) (items : List (Item Content)) → 0 < length items → AllFit voice items
     → (placed : List (Placed (Item Event))) × (bodyOf voice (bytesOf handyPhone items) ≡ fine placed) × (contentsIn (bytesOf handyPhone items) placed ≡ items)
 unfolding contentsIn
-sequence-reads voice items some fit marked =
+sequence-reads voice items some fit =
     let s = bytesOf handyPhone items in
     let all = all-meet voice s items 0 fit (subst (λ (t : List ℕ). Stands t 0 s) (append-nil s) (stands-between [] s [])) (omega arith) in
     let same = all .2 in
     let many : length (all .0) ≡ length items = sym (length-map (all .0) _) ∙ ap length same in
-    let passes = marked-passes voice s (all .0) [] 0 (all .1) (subst MarkLast (sym same) marked) in
-    (all .0, body-reads-to voice s (all .0) (some-bytes voice s (all .0) (omega arith) (all .1)) (all .1) passes, same)
+    (all .0, body-reads-to voice s (all .0) (some-bytes voice s (all .0) (omega arith) (all .1)) (all .1), same)

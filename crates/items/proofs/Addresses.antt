@@ -8,7 +8,7 @@ use native.Mathlib.Decide.{decLt}
 use native.Mathlib.Omega.{arith}
 use borrow.Author.Tests.{eq-eqb, ne-eqb, eqb-true, eqb-false, lt-ltb}
 use Rattle.model.specs.Words.{if_then_else_, _or_, _<?_, _≡?_, any, keep, sum, Placed, Checked.fine, Step.met, Step.stuck}
-use Rattle.model.specs.Item.{Item, Item.timed, Item.endMark, durationOf, lasting, itemAt, itemMet, itemStep, isMark, bodyOf, isFine, itemsOf}
+use Rattle.model.specs.Item.{Item, Item.timed, Item.endMark, durationOf, lasting, itemAt, itemMet, itemStep, bodyOf, isFine, itemsOf}
 use Rattle.model.specs.Points.{isAddress}
 use Rattle.model.specs.declared.Voice.{Voice}
 use Rattle.model.specs.declared.Event.{Event}
@@ -39,15 +39,6 @@ met-far at end (Timed duration event n) item next a e = let same : n ≡ next = 
 met-far at end (EndMark n) item next a e = let same : n ≡ next = cc in omega arith
 met-far at end (Refused number place) item next a e = let z : _≡_ {A = ℕ} 0 1 = cc in absurd (omega arith)
 
-met-four : (at end : ℕ) (j : ReadItem) (item : Placed (Item Event)) (next : ℕ) → ItemAhead at end j → itemMet at j ≡ met item next
-    → isMark (item .what) ≡ true → next ≡ at + 4
-unfolding itemMet isMark
-met-four at end (Timed duration event n) item next a e marked =
-    let same : _≡_ {A = Placed (Item Event)} (record { place = at; what = timed duration event }) item = cc in
-    absurd (false≢true (ap (λ (i : Placed (Item Event)). isMark (i .what)) same ∙ marked))
-met-four at end (EndMark n) item next a e marked = let same : n ≡ next = cc in omega arith
-met-four at end (Refused number place) item next a e marked = let z : _≡_ {A = ℕ} 0 1 = cc in absurd (omega arith)
-
 met-ends : (at : ℕ) (j : ReadItem) (item : Placed (Item Event)) (next place : ℕ) → itemMet at j ≡ met item next → EndsAt place j → next ≡ place
 unfolding itemMet EndsAt
 met-ends at (Timed duration event n) item next place e h = let same : n ≡ next = cc in omega arith
@@ -65,11 +56,6 @@ module _ (voice : Voice) (s : List ℕ) (at : ℕ) (item : Placed (Item Event)) 
   pub stands-far : at + 3 ≤ next
   unfolding itemStep
   stands-far = met-far at (length s) (itemAt voice s at) item next (item-ahead voice s at) e
-
-  -- an end mark has four bytes
-  pub mark-stands-four : isMark (item .what) ≡ true → next ≡ item .place + 4
-  unfolding itemStep
-  mark-stands-four marked = met-four at (length s) (itemAt voice s at) item next (item-ahead voice s at) e marked ∙ ap (λ (n : ℕ). n + 4) (sym placed-at)
 
 -- what is read at a place is met there, and ends nearer to the body's end
 module _ (voice : Voice) (s : List ℕ) (at : ℕ) (i : ReadItem) (is : i ≡ itemAt voice s at) where

@@ -1,8 +1,7 @@
--- What is read at a place ends within the body and past the place, an event by two bytes or more, an item by three or more and an end mark by
--- four; and a fault has a number from 20 to 23, and a place within the body or at its end.
+-- What is read at a place ends within the body and past the place, an event by two bytes or more, an item or an end mark by three or more; and a
+-- fault has a number from 20 to 23, and a place within the body or at its end.
 use Prim.Native.Nat.{ℕ, _+_, _<_, _≤_}
 use mathlib.Core.List.{List}
-use mathlib.Core.Path.{_≡_}
 use lib.ListN.{length}
 use native.Mathlib.Omega.{arith}
 use borrow.Author.Tests.{leb-false}
@@ -33,7 +32,7 @@ EventAhead at end (event.Refused number place) = FaultWithin end number place
 
 abbrev pub ItemAhead : ℕ → ℕ → ReadItem → Type 0
 ItemAhead at end (Timed length event next) = (at + 3 ≤ next) × (next ≤ end)
-ItemAhead at end (EndMark next) = (next ≡ at + 4) × (next ≤ end)
+ItemAhead at end (EndMark next) = (at + 3 ≤ next) × (next ≤ end)
 ItemAhead at end (Refused number place) = FaultWithin end number place
 
 pub duration-ahead : (s : List ℕ) (at : ℕ) → DurationAhead at (length s) (durationAt s at)

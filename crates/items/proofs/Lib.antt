@@ -2,8 +2,8 @@
 pub mod Matches
 pub mod Ahead
 pub mod Passing
-pub mod Reading
 pub mod Setup
 pub mod Standing
 pub mod Addresses
+pub mod Reading
 pub mod Within

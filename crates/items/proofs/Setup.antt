@@ -6,7 +6,7 @@ use mathlib.Core.Path.{_≡_, refl, sym, _∙_, ap, subst}
 use lib.ListN.{length}
 use native.Mathlib.Omega.{arith}
 use borrow.Author.Tests.{eq-eqb, ne-eqb, le-leb, lt-leb}
-use Rattle.model.specs.Words.{if_then_else_, _≤?_, Checked, passed, walkTo, inTurn}
+use Rattle.model.specs.Words.{if_then_else_, _≤?_, Checked, walkTo, inTurn, unasked}
 use Rattle.model.specs.Item.{setupMessageAt, messageMet, setupStep, setupOf, checkAnswer}
 use Rattle.model.specs.declared.Event.{Event}
 use Rattle.model.specs.declared.ReadEvent.{ReadEvent}
@@ -16,13 +16,10 @@ use Rattle.model.proofs.Answers.{answer-first}
 use Rattle.model.proofs.Walks.{GoesOn, Left, left-starts, left-ends, left-stuck, left-next}
 use Rattle.items.proofs.Ahead.{message-goes}
 
-abbrev free : List Event → Event → Checked (Unit {0})
-free before message = passed
-
 pub record SettingUp (s : List ℕ) (at : ℕ) : Type 0 where
   pub before : List Event
   pub left : Checked (List Event)
-  pub walk : Left 10 (length s) (setupStep s) (λ before message. passed) at before left
+  pub walk : Left 10 (length s) (setupStep s) unasked at before left
   pub same : checkAnswer left ≡ checkAnswer (setupOf s)
 
 pub setup-empty : (s : List ℕ) → length s ≡ 0 → check.Refused 10 0 ≡ checkAnswer (setupOf s)
@@ -34,8 +31,8 @@ unfolding setupOf if_then_else_
 setup-starts s h =
     record {
       before = [];
-      left = inTurn free [] (walkTo 10 (length s) (setupStep s) 0);
-      walk = left-starts 10 (length s) (setupStep s) free 0 (omega arith);
+      left = inTurn unasked [] (walkTo 10 (length s) (setupStep s) 0);
+      walk = left-starts 10 (length s) (setupStep s) unasked 0 (omega arith);
       same = simp ne-eqb;
     }
 

@@ -1,20 +1,17 @@
 -- A refusal of a body has a place within the body.
-use Prim.Native.Nat.{ℕ, suc, _+_, _≤_}
+use Prim.Native.Nat.{ℕ, suc, _≤_}
 use mathlib.Core.List.{List, []}
 use mathlib.Core.Bool.{Bool, true, false}
-use mathlib.Core.Path.{_≡_, refl}
+use mathlib.Core.Path.{_≡_}
 use lib.ListN.{length}
 use native.Mathlib.Omega.{arith}
-use borrow.Author.Tests.{ltb-true}
-use Rattle.model.specs.Words.{if_then_else_, _and_, _<?_, _≡?_, Placed, Checked.refused, passed, Step.stuck, walkTo, inTurn}
-use Rattle.model.specs.Item.{Item, itemAt, itemMet, itemStep, isMark, markIsLast, bodyOf, setupMessageAt, messageMet, setupStep, setupOf}
+use Rattle.model.specs.Words.{if_then_else_, _≡?_, Checked.refused, Step.stuck, walkTo, inTurn, unasked}
+use Rattle.model.specs.Item.{itemAt, itemMet, itemStep, bodyOf, setupMessageAt, messageMet, setupStep, setupOf}
 use Rattle.model.specs.declared.Voice.{Voice}
-use Rattle.model.specs.declared.Event.{Event}
 use Rattle.model.specs.declared.ReadEvent.{ReadEvent}
 use Rattle.model.specs.declared.ReadEvent.the-variants as event
 use Rattle.model.specs.declared.ReadItem.{ReadItem}
 use Rattle.model.specs.declared.ReadItem.the-variants.{Timed, EndMark, Refused}
-use Rattle.model.proofs.Tests.{and-right}
 use Rattle.model.proofs.Walks.{refused-within}
 use Rattle.items.proofs.Ahead.{ItemAhead, item-ahead, item-goes, message-goes}
 
@@ -24,29 +21,17 @@ stuck-item at end (Timed duration event next) n place a e = let z : _≡_ {A = �
 stuck-item at end (EndMark next) n place a e = let z : _≡_ {A = ℕ} 0 1 = cc in absurd (omega arith)
 stuck-item at end (Refused number there) n place a e = let same : there ≡ place = cc in omega arith
 
-marked-within : (size : ℕ) (item : Placed (Item Event)) (before : List (Placed (Item Event))) (n place : ℕ) → markIsLast size before item ≡ refused n place
-    → place ≤ size
-unfolding markIsLast if_then_else_
-marked-within size item before n place e = go (isMark (item .what) and (item .place + 4 <? size)) refl e
-  where
-    go : (t : Bool) → (isMark (item .what) and (item .place + 4 <? size)) ≡ t
-        → (if t then refused 11 (item .place + 4) else passed) ≡ refused n place → place ≤ size
-    go true h q =
-        let same : item .place + 4 ≡ place = cc in
-        omega (arith, ltb-true (item .place + 4) size (and-right (isMark (item .what)) _ h))
-    go false h q = let z : _≡_ {A = ℕ} 0 1 = cc in absurd (omega arith)
-
 pub body-refused-within : (voice : Voice) (s : List ℕ) (n place : ℕ) → bodyOf voice s ≡ refused n place → place ≤ length s
 unfolding bodyOf if_then_else_ walkTo itemStep
 body-refused-within voice s n place e = go (length s ≡? 0) e
   where
-    go : (t : Bool) → (if t then refused 11 0 else inTurn (markIsLast (length s)) [] (walkTo 11 (length s) (itemStep voice s) 0)) ≡ refused n place
+    go : (t : Bool) → (if t then refused 11 0 else inTurn unasked [] (walkTo 11 (length s) (itemStep voice s) 0)) ≡ refused n place
         → place ≤ length s
     go true q = let same : _≡_ {A = ℕ} 0 place = cc in omega arith
     go false q =
-        refused-within 11 (length s) (itemStep voice s) (markIsLast (length s)) (λ at h. item-goes voice s at)
+        refused-within 11 (length s) (itemStep voice s) unasked (λ at h. item-goes voice s at)
         (λ at m there h is. stuck-item at (length s) (itemAt voice s at) m there (item-ahead voice s at) is)
-        (λ at next m there item before h is refused. marked-within (length s) item before m there refused)
+        (λ at next m there item before h is refused. let z : _≡_ {A = ℕ} 0 1 = cc in absurd (omega arith))
         (suc (length s)) 0 [] n place (omega arith) q
 
 stuck-message : (at : ℕ) (message : ReadEvent) (n place : ℕ) → messageMet at message ≡ stuck n place → place ≡ at
@@ -58,11 +43,11 @@ pub setup-refused-within : (s : List ℕ) (n place : ℕ) → setupOf s ≡ refu
 unfolding setupOf if_then_else_ walkTo setupStep
 setup-refused-within s n place e = go (length s ≡? 0) e
   where
-    go : (t : Bool) → (if t then refused 10 0 else inTurn (λ before message. passed) [] (walkTo 10 (length s) (setupStep s) 0)) ≡ refused n place
+    go : (t : Bool) → (if t then refused 10 0 else inTurn unasked [] (walkTo 10 (length s) (setupStep s) 0)) ≡ refused n place
         → place ≤ length s
     go true q = let same : _≡_ {A = ℕ} 0 place = cc in omega arith
     go false q =
-        refused-within 10 (length s) (setupStep s) (λ before message. passed) (λ at h. message-goes s at)
+        refused-within 10 (length s) (setupStep s) unasked (λ at h. message-goes s at)
         (λ at m there h is. omega (arith, stuck-message at (setupMessageAt s at) m there is))
         (λ at next m there message before h is refused. let z : _≡_ {A = ℕ} 0 1 = cc in absurd (omega arith))
         (suc (length s)) 0 [] n place (omega arith) q

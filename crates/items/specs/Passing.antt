@@ -1,15 +1,13 @@
--- What the walk of a body says of the items that it passes, and of its end mark.
+-- What the walk of a body says of the items that it passes.
 use Prim.Native.Nat.{ℕ, _+_}
 use mathlib.Core.Bool.{Bool, not}
 use mathlib.Core.List.{List}
 use mathlib.Core.Path.{_≡_}
 use lib.ListN.{length}
-use Rattle.model.specs.Words.{if_then_else_, _≡?_, _and_, _<?_, _≤?_}
+use Rattle.model.specs.Words.{_≡?_, _and_, _<?_, _≤?_}
 use Rattle.model.specs.Bytes.{_!_}
 use Rattle.model.specs.Event.{isSound}
 use Rattle.model.specs.declared.Voice.{Voice}
-use Rattle.model.specs.declared.ReadBody.{ReadBody}
-use Rattle.model.specs.declared.ReadBody.the-variants as body
 use Rattle.model.specs.declared.ReadItem.{ReadItem}
 use Rattle.model.specs.declared.ReadItem.the-variants.{Timed, EndMark, Refused}
 
@@ -23,7 +21,3 @@ EndsAt place (Refused number at) = Unit
 unfoldable pub isShort : Voice → List ℕ → ℕ → Bool
 isShort voice s at =
     (at + 3 ≤? length s) and (s ! at <? 128) and not (s ! (at + 1) ≡? 0x00) and not (s ! (at + 1) ≡? 0xFF) and not (s ! (at + 2) ≡? 0) and (s ! (at + 2) <? 128) and isSound voice (s ! (at + 1))
-
--- a body whose end mark ends at a place, after so many items
-unfoldable pub endedAt : ℕ → ℕ → ℕ → ℕ → ReadBody
-endedAt size next count lasts = if next ≡? size then body.Whole (count + 1) lasts else body.Refused 11 next

@@ -3,7 +3,6 @@ ghost use mathlib.Core.Path.{_≡_};
 ghost use Prim.Native.Nat.{_≤_};
 ghost use lib.ListN.{length};
 ghost use Rattle.model.specs.Item.{bodyOf, bodyAnswer, setupMessageAt, setupOf, checkAnswer};
-ghost use Rattle.items.specs.Passing.{endedAt};
 use super::event::read_exclusive;
 use super::item::read_item;
 use super::pass::is_short;
@@ -12,23 +11,6 @@ use model::ReadBody;
 use model::ReadEvent;
 use model::ReadItem;
 use model::Voice;
-
-// What a body of a size comes to, after so many items, where its end mark ends at a place.
-fn end_body(size: usize, next: usize, count: usize, lasts: u64) -> ReadBody
-    requires { ⌜ count ≤ 65536 ⌝ }
-    ensures { λ r. ⌜ r ≡ endedAt size next count lasts ⌝ }
-{
-    if next == size {
-        return ReadBody::Whole {
-            count: count + 1,
-            duration: lasts,
-        };
-    }
-    ReadBody::Refused {
-        number: 11,
-        place: next,
-    }
-}
 
 pub fn read_body(voice: Voice, s: &[u8]) -> ReadBody
     requires { ⌜ length (now s) ≤ 65536 ⌝ }
@@ -61,7 +43,8 @@ pub fn read_body(voice: Voice, s: &[u8]) -> ReadBody
                     at = next;
                 }
                 ReadItem::EndMark { next } => {
-                    return end_body(s.len(), next, count, lasts);
+                    count += 1;
+                    at = next;
                 }
                 ReadItem::Refused { number, place } => {
                     return ReadBody::Refused { number, place };

@@ -11,7 +11,7 @@ use borrow.Author.Tests.{ltb-false}
 use Rattle.sections.specs.Spans.{Rising}
 use Rattle.model.specs.Words.{if_then_else_, _<?_, _≤?_, Checked, Checked.fine, Checked.refused}
 use Rattle.model.specs.Bytes.{_!_}
-use Rattle.model.specs.Play.{At, Tune, tuneOf}
+use Rattle.model.specs.Play.{At, Tune}
 use Rattle.model.specs.Word.{wordOf, InWord}
 use Rattle.model.specs.Writing.{kindIn, eventIn, eventOfWord}
 use Rattle.model.specs.Order.{tuneIn}
@@ -26,7 +26,7 @@ use Rattle.model.proofs.Tests.{by-test, if-true, if-false}
 use Rattle.inverse.proofs.WordBack.{word-back}
 use Rattle.items.proofs.Standing.{body-stands}
 use Rattle.sections.proofs.Small.{lasting-short}
-use Rattle.sections.proofs.Throughout.{OfMessages, of-played, body-in-word}
+use Rattle.sections.proofs.Throughout.{OfMessages, of-tune, body-in-word}
 use Rattle.sections.proofs.Lengths.{tune-short}
 use Rattle.reading.proofs.Accepted.{not-refused}
 use Rattle.plain.proofs.NamedTracks.{Readable, named-reads}
@@ -90,11 +90,11 @@ module _ (buffer : List ℕ) (n row room : ℕ) (tune : Tune Event) (e : playOf 
         (tune-short track (made .sections) (made .orders) (omega arith) (readable .few))
 
     pub in-words : OfMessages InWord (tune .messages)
-    unfolding tuneIn tuneOf
+    unfolding tuneIn
     in-words =
         let track = made .track in
         subst (λ (t : Tune Event). OfMessages InWord (t .messages)) (sym (made .is))
-        (of-played InWord (track .items) (body-in-word (track .voice) (track .body) (readable .bytes) (readable .small) (track .items) (readable .reads)) 0 (made .sections))
+        (of-tune InWord (track .items) (body-in-word (track .voice) (track .body) (readable .bytes) (readable .small) (track .items) (readable .reads)) (made .sections))
 
 -- THE LISTING of the rows that a play left in two tables
 module _ (tune : Tune Event) (all : OfMessages InWord (tune .messages)) (base : ℕ) (steps words : List ℕ) where

@@ -5,10 +5,9 @@ use mathlib.Core.List.{List, [], _∷_}
 use mathlib.Core.Bool.{Bool, true, false, false≢true}
 use mathlib.Core.Option.{Option, none, some}
 use mathlib.Core.Path.{_≡_, refl, sym, _∙_, ap, ap₂}
-use lib.ListN.{length, take, drop, length-take, List·getD-eq-default}
-use lib.Seq.{getD-take, getD-drop}
+use lib.ListN.{length, take, drop, length-take}
+use lib.Seq.{getD-drop}
 use native.Mathlib.Omega.{arith}
-use native.Mathlib.Decide.{decLt}
 use Rattle.model.specs.Words.{_≡?_, _otherwise_, firstSaid, Placed, Checked, Checked.fine, each}
 use Rattle.model.specs.Bytes.{_!_, part}
 use Rattle.model.specs.Item.{Item, isFine, found, bodyOf}
@@ -18,7 +17,7 @@ use Rattle.model.specs.Track.{Track, seekIn, entriesOf, trackOf}
 use Rattle.model.specs.File.{File, Top, Top.leaf, Top.readable, topOf, fileOf, partsOf, trackIn, trackFrom, trackAt}
 use Rattle.model.specs.declared.Voice.{Voice}
 use Rattle.model.specs.declared.Event.{Event}
-use Rattle.model.proofs.Parts.{part-short}
+use Rattle.model.proofs.Parts.{take-bytes, part-short}
 use Rattle.model.proofs.Outcomes.{then-fine, bind-fine, counted-fine}
 use Rattle.model.proofs.Tests.{by-test, if-true, if-false}
 use Rattle.seek.proofs.Standing.{allEntries}
@@ -27,16 +26,6 @@ use Rattle.reading.proofs.TrackMade.{track-made}
 use Rattle.reading.proofs.Accepted.{stated-bytes, stated-small, contents-made, each-fine, each-none, OpenedAs, opened-as}
 
 -- bytes of a part are bytes
-
-take-bytes : (s : List ℕ) (size : ℕ) → ((k : ℕ) → s ! k < 256) → (k : ℕ) → take size s ! k < 256
-take-bytes s size bytes k =
-    elim (decLt k size) [
-      | yes h ↦ omega (arith, getD-take size s k 0 h, bytes k)
-      | no h ↦
-          let short : length (take size s) ≤ k = simp length-take (omega arith) in
-          omega (arith, List·getD-eq-default (take size s) 0 short)
-    ]
-
 part-bytes : (s : List ℕ) (place size : ℕ) → ((k : ℕ) → s ! k < 256) → (k : ℕ) → part s place size ! k < 256
 part-bytes s place size bytes k = take-bytes (drop place s) size (λ j. omega (arith, getD-drop place s j 0, bytes (place + j))) k
 

@@ -6,7 +6,7 @@ use mathlib.Core.Option.{some}
 use mathlib.Core.Path.{_≡_, _∙_}
 use Rattle.model.specs.Words.{_≤?_}
 use Rattle.model.specs.Item.{Item, Item.timed, Item.endMark}
-use Rattle.model.specs.Play.{At, Section, tuneOf, retold}
+use Rattle.model.specs.Play.{At, Section, retold}
 use Rattle.model.specs.Track.{Track}
 use Rattle.model.specs.Order.{playOrder, tuneIn}
 use Rattle.model.specs.Content.{contentOf, contentIn, contentsIn, isSaid}
@@ -17,7 +17,7 @@ use Rattle.model.proofs.Tests.{and-right}
 use Rattle.inverse.proofs.Sequence.{AllFit}
 use Rattle.inverse.proofs.ReadWrites.{body-fits}
 use Rattle.sections.specs.Spans.{Items, Rising}
-use Rattle.sections.proofs.Throughout.{OfItem, OfItems, OfMessages, of-played}
+use Rattle.sections.proofs.Throughout.{OfItem, OfItems, OfMessages, of-tune}
 use Rattle.sections.proofs.Tunes.{tune-rises}
 use Rattle.plain.proofs.PlainPlays.{Rises, AllSaid}
 use Rattle.plain.proofs.PlainItems.{Writable}
@@ -60,10 +60,11 @@ module _ (voice : Voice) (body : List ℕ) where
 -- THE TUNE of a readable track in its play order can be written.
 pub tune-writable : (track : Track) (sections : List Section) → Readable track → playOrder track ≡ some sections
     → WritableTune (track .voice) (retold (contentOf (track .body)) (tuneIn track sections))
-unfolding tuneIn tuneOf retold
+unfolding tuneIn retold
 tune-writable track sections readable e =
     let fit = body-fits (track .voice) (track .body) (readable .bytes) (track .items) (readable .reads) in
-    let sound = of-played (Fits (track .voice) (track .body)) (track .items) (items-sound (track .voice) (track .body) (track .items) fit) 0 sections in
+    let sound =
+    of-tune (Fits (track .voice) (track .body)) (track .items) (items-sound (track .voice) (track .body) (track .items) fit) sections in
     let tune = tuneIn track sections in
     record {
       rises = told-rises (track .voice) (track .body) 0 (tune .end) (tune .messages) (tune-rises track sections e);

@@ -1,54 +1,55 @@
 -- Demand 3, "one plain sequence", and the paper's "Then the end mark": the items of a plain form can all be written where its messages can,
 -- and the last of them, and no other, is the end mark.
 use Prim.Native.Nat.{ℕ, zero, suc, _-_, _<_, _≤_}
-use mathlib.Core.Bool.{true}
+use mathlib.Core.Bool.{true, false}
 use mathlib.Core.List.{List, [], _∷_, _++_, append-assoc, append-nil}
 use mathlib.Core.Path.{_≡_, refl, sym, _∙_, ap}
 use lib.ListN.{length, replicate}
 use native.Mathlib.Omega.{arith}
 use borrow.Author.Tests.{le-leb}
-use Rattle.model.specs.Words.{_≤?_}
-use Rattle.model.specs.Item.{Item, Item.timed, Item.endMark}
+use Rattle.model.specs.Words.{_or_, _≤?_, any, through}
+use Rattle.model.specs.Item.{Item, Item.timed, Item.endMark, isMark}
 use Rattle.model.specs.Play.{At, Tune}
-use Rattle.model.specs.Plain.{Format, itemBytes, bytesOf, times, left, waits, rest, plainAfter, plainItems, plainForm}
+use Rattle.model.specs.Plain.{Format, itemBytes, bytesOf, times, left, waits, rest, plainAfter, plainItems}
 use Rattle.model.specs.Content.{Content, Content.nop, handyPhone}
 use Rattle.model.specs.Writing.{contentFits, itemFits}
 use Rattle.model.specs.declared.Voice.{Voice}
+use Rattle.model.proofs.Picking.{any-append, through-append, through-here}
 use Rattle.model.proofs.Tests.{if-all, both-true}
-use Rattle.inverse.proofs.Sequence.{AllFit, MarkLast}
+use Rattle.inverse.proofs.Sequence.{AllFit}
 use Rattle.plain.proofs.Gaps.{left-short}
 
--- items of which none is the end mark
-abbrev pub Unmarked : {E : Type 0} → List (Item E) → Type 0
-Unmarked [] = Unit
-Unmarked (timed duration event ∷ items) = Unmarked items
-Unmarked (endMark ∷ items) = ⊥
-
--- items, then the end mark
+-- items of which the last, and no other, is an end mark
 pub record Ended {E : Type 0} (items : List (Item E)) : Type 0 where
   pub front : List (Item E)
-  pub unmarked : Unmarked front
+  pub unmarked : any isMark front ≡ false
   pub is : items ≡ front ++ (endMark ∷ [])
 
-module _ (E : Type 0) (format : Format E) where
-  unmarked-append : (front back : List (Item E)) → Unmarked front → Unmarked back → Unmarked (front ++ back)
-  unmarked-append [] back u v = v
-  unmarked-append (timed duration event ∷ front) back u v = unmarked-append front back u v
-  unmarked-append (endMark ∷ front) back u v = absurd u
+-- so all of them are up to and with the first mark
+pub mark-cuts-nothing : {E : Type 0} (items : List (Item E)) → Ended items → through isMark items ≡ items
+unfolding isMark
+mark-cuts-nothing {E} items ended =
+    ap (through isMark) (ended .is)
+    ∙ through-append isMark (ended .front) (endMark ∷ []) (ended .unmarked)
+    ∙ ap (λ (l : List (Item E)). ended .front ++ l) (through-here isMark endMark [] refl)
+    ∙ sym (ended .is)
 
-  waits-unmarked : (count duration : ℕ) (event : E) → Unmarked (replicate count (timed duration event))
-  waits-unmarked zero duration event = tt
+module _ (E : Type 0) (format : Format E) where
+  waits-unmarked : (count duration : ℕ) (event : E) → any isMark (replicate count (timed duration event)) ≡ false
+  unfolding any isMark _or_
+  waits-unmarked zero duration event = refl
   waits-unmarked (suc count) duration event = waits-unmarked count duration event
 
-  rest-unmarked : (gap : ℕ) → Unmarked (rest format gap)
-  unfolding rest waits
+  rest-unmarked : (gap : ℕ) → any isMark (rest format gap) ≡ false
+  unfolding rest waits any isMark _or_
   rest-unmarked gap =
       let all = waits-unmarked (times (format .longest) gap) (format .longest) (format .nop) in
-      if-all Unmarked _ _ _ (λ h. all) (λ h. unmarked-append (waits format gap) (timed (left (format .longest) gap) (format .nop) ∷ []) all tt)
+      if-all (λ (items : List (Item E)). any isMark items ≡ false) _ _ _ (λ h. all)
+      (λ h. any-append isMark (waits format gap) (timed (left (format .longest) gap) (format .nop) ∷ []) all)
 
   -- THE END MARK is the last item of a plain form and no other is one.
   pub plain-ends : (past : ℕ) (messages : List (At E)) (end : ℕ) → Ended (plainAfter format past messages end)
-  unfolding plainAfter waits
+  unfolding plainAfter waits any isMark _or_
   plain-ends past [] end = record { front = rest format (end - past); unmarked = rest-unmarked (end - past); is = refl }
   plain-ends past (at ∷ messages) end =
       let later = plain-ends (at .step) messages end in
@@ -56,8 +57,8 @@ module _ (E : Type 0) (format : Format E) where
       let here : Item E = timed (left (format .longest) gap) (at .event) in
       record {
         front = waits format gap ++ (here ∷ later .front);
-        unmarked = unmarked-append (waits format gap) (here ∷ later .front)
-            (waits-unmarked (times (format .longest) gap) (format .longest) (format .nop)) (later .unmarked);
+        unmarked = any-append isMark (waits format gap) (here ∷ later .front)
+            (waits-unmarked (times (format .longest) gap) (format .longest) (format .nop)) ∙ later .unmarked;
         is = ap (λ (items : List (Item E)). waits format gap ++ (here ∷ items)) (later .is)
             ∙ sym (append-assoc (waits format gap) (here ∷ later .front) (endMark ∷ []));
       }
@@ -69,15 +70,13 @@ module _ (E : Type 0) (format : Format E) where
       ap (λ (bytes : List ℕ). itemBytes format item ++ bytes) (bytes-append front back)
       ∙ sym (append-assoc (itemBytes format item) (bytesOf format front) (bytesOf format back))
 
-  -- so the last bytes are those of the end mark
-  pub plain-closes : (tune : Tune E) → (front : List ℕ) × (plainForm format tune ≡ front ++ format .endBytes)
-  unfolding plainForm plainItems bytesOf itemBytes
-  plain-closes tune =
-      let ended = plain-ends 0 (tune .messages) (tune .end) in
-      let front = bytesOf format (ended .front) in (
-        front,
-        ap (bytesOf format) (ended .is) ∙ bytes-append (ended .front) (endMark ∷ []) ∙ ap (λ (bytes : List ℕ). front ++ bytes) (append-nil (format .endBytes)),
-      )
+  -- The last bytes are those of the end mark, after what the other items write.
+  pub ended-closes : (items : List (Item E)) (ended : Ended items) → bytesOf format items ≡ bytesOf format (ended .front) ++ format .endBytes
+  unfolding bytesOf itemBytes
+  ended-closes items ended =
+      ap (bytesOf format) (ended .is)
+      ∙ bytes-append (ended .front) (endMark ∷ [])
+      ∙ ap (λ (bytes : List ℕ). bytesOf format (ended .front) ++ bytes) (append-nil (format .endBytes))
 
 -- messages whose contents can all be written
 abbrev pub Writable : Voice → List (At Content) → Type 0
@@ -117,20 +116,11 @@ module _ (voice : Voice) where
       fit-append (waits handyPhone gap) (timed (left 16511 gap) (at .event) ∷ plainAfter handyPhone (at .step) messages end) (waits-fit (times 16511 gap))
       (timed-fits (left 16511 gap) (at .event) (left-short 16511 gap (omega arith)) (fit .0), plain-fits (at .step) messages end (fit .1))
 
--- what ends with its only end mark is not empty, and a sequence so far
-
-ended-marked : (front : List (Item Content)) → Unmarked front → MarkLast (front ++ (endMark ∷ []))
-ended-marked [] u = refl
-ended-marked (timed duration content ∷ front) u = ended-marked front u
-ended-marked (endMark ∷ front) u = absurd u
+-- what ends with an end mark is not empty
 
 ended-some : (front : List (Item Content)) → 0 < length (front ++ (endMark ∷ []))
 ended-some [] = omega arith
 ended-some (item ∷ front) = omega arith
-
-pub plain-marked : (tune : Tune Content) → MarkLast (plainItems handyPhone tune)
-unfolding plainItems
-plain-marked tune = let ended = plain-ends Content handyPhone 0 (tune .messages) (tune .end) in rw (ended .is) (ended-marked (ended .front) (ended .unmarked))
 
 pub plain-some : (tune : Tune Content) → 0 < length (plainItems handyPhone tune)
 unfolding plainItems

@@ -1,7 +1,7 @@
 -- DEMAND 3: "Each readable track can be turned into one plain sequence that plays the same messages, in the same order, at the same steps,
 -- with the same end." Over every accepted file and every row that names a readable track with a play order: the plain form is a body of the
--- track's voice, its items are exactly what was written, and as a stream without points it plays the tune that the track plays, exclusives
--- by their bytes. And it is its own plain form.
+-- track's voice, its items are exactly what was written, it has one end mark, which is its last four bytes, and as a stream without points it plays the
+-- tune that the track plays, exclusives by their bytes. And it is its own plain form.
 use Prim.Native.Nat.{ℕ, _<_}
 use mathlib.Core.Bool.{false}
 use mathlib.Core.List.{List, [], _∷_, _++_}
@@ -14,12 +14,13 @@ use Rattle.model.specs.Seek.{startPoint, stopPoint}
 use Rattle.model.specs.Play.{retold}
 use Rattle.model.specs.Track.{Track}
 use Rattle.model.specs.Order.{streamSection, orderOf, playOrder, tuneIn}
-use Rattle.model.specs.Plain.{plainItems, plainForm}
+use Rattle.model.specs.Plain.{bytesOf, plainItems, plainForm}
 use Rattle.model.specs.Content.{contentOf, contentsIn, handyPhone}
 use Rattle.model.specs.Answer.{Performance, ordered, performed, plainOf}
 use Rattle.model.specs.declared.Event.{Event}
 use Rattle.reading.proofs.Performed.{performed-so}
 use Rattle.sections.proofs.WholeStream.{streamed}
+use Rattle.plain.proofs.PlainItems.{Ended}
 use Rattle.plain.proofs.PlainReads.{WritableTune, plain-reads}
 use Rattle.plain.proofs.NamedTracks.{named-reads}
 use Rattle.plain.proofs.Performances.{tune-writable}
@@ -31,13 +32,15 @@ performance-writable buffer n row performance bytes e =
     subst (λ (p : Performance). WritableTune (p .track .voice) (retold (contentOf (p .track .body)) (p .tune))) (sym (so .is))
     (tune-writable (so .track) (so .sections) (named-reads buffer n row (so .file) (so .track) bytes (so .reads) (so .names)) (so .orders))
 
--- THE PLAIN FORM of a performance: its items, its last four bytes, that the items are what was written, that as a stream without points
--- they play the same tune, and that flattening it again gives it.
+-- THE PLAIN FORM of a performance: its items; that they are what was written, and the last of them, and no other, is an end mark; its bytes, which are
+-- what the items before the mark write, and four zeros; that as a stream without points it plays the same tune; and that flattening it again
+-- gives it.
 pub record Flattened (performance : Performance) : Type 0 where
   pub items : List (Placed (Item Event))
   pub reads : bodyOf (performance .track .voice) (plainOf performance) ≡ fine items
-  pub closed : (front : List ℕ) × (plainOf performance ≡ front ++ (0 ∷ 0 ∷ 0 ∷ 0 ∷ []))
   pub written : contentsIn (plainOf performance) items ≡ plainItems handyPhone (retold (contentOf (performance .track .body)) (performance .tune))
+  pub ended : Ended (contentsIn (plainOf performance) items)
+  pub closed : plainOf performance ≡ bytesOf handyPhone (ended .front) ++ (0 ∷ 0 ∷ 0 ∷ 0 ∷ [])
   pub same : retold (contentOf (plainOf performance)) (streamed items) ≡ retold (contentOf (performance .track .body)) (performance .tune)
   pub again : plainForm handyPhone (retold (contentOf (plainOf performance)) (streamed items)) ≡ plainOf performance
 
@@ -48,7 +51,15 @@ plays-the-same buffer n row performance bytes e =
     let plain =
     plain-reads (performance .track .voice) (retold (contentOf (performance .track .body)) (performance .tune))
     (performance-writable buffer n row performance bytes e) in
-    record { items = plain .items; reads = plain .reads; closed = plain .closed; written = plain .written; same = plain .same; again = plain .again }
+    record {
+      items = plain .items;
+      reads = plain .reads;
+      written = plain .written;
+      ended = plain .ended;
+      closed = plain .closed;
+      same = plain .same;
+      again = plain .again;
+    }
 
 -- FLATTENED AGAIN: a stream without points whose body is a plain form has that plain form.
 

@@ -8,7 +8,7 @@ pub mod Orders
 pub mod Phrased
 pub mod Bounded
 pub mod Tables
-pub mod Planning
+pub mod LetterSpans
 pub mod Writing
 pub mod Together
 pub mod OrderPlayed

@@ -1,26 +1,28 @@
--- What is played of an order list: 17 where there is none, and otherwise the rows of its letters, by the plan that was made of them.
+-- What is played of an order list: 17 where there is none, and otherwise the rows of its letters, up to the one in whose section playing stops.
 use Prim.Native.Nat.{ℕ, _<_, _≤_, min}
-use mathlib.Core.Path.{_≡_, sym, _∙_, ap}
+use mathlib.Core.Path.{_≡_, refl, sym, _∙_, ap, subst}
 use mathlib.Core.Bool.{true}
 use mathlib.Core.List.{List, map}
 use mathlib.Core.Option.{none, some}
-use lib.ListN.{length}
+use lib.ListN.{length, take}
 use lib.Seq.{sets}
 use native.Mathlib.Omega.{arith}
-use Rattle.model.specs.Words.{Checked.refused}
-use Rattle.model.specs.Item.{itemsOf}
-use Rattle.model.specs.Play.{At, Tune, tuneOf}
-use Rattle.model.specs.Word.{isMessage}
+use Rattle.model.specs.Words.{Checked, Checked.refused}
+use Rattle.model.specs.Item.{isFine, bodyOf, itemsOf}
+use Rattle.model.specs.Play.{Tune}
 use Rattle.model.specs.Order.{orderOf}
 use Rattle.model.specs.Answer.{playAnswer, stepsTable, wordsTable}
 use Rattle.model.specs.declared.Voice.{Voice}
 use Rattle.model.specs.declared.Event.{Event}
-use Rattle.model.specs.declared.Plan.{Plan}
+use Rattle.model.specs.declared.Span.{Span}
+use Rattle.model.specs.declared.FoundSpans.{FoundSpans}
+use Rattle.model.specs.declared.Total.{Total}
+use Rattle.model.specs.declared.PlayAnswer.{PlayAnswer}
 use Rattle.model.specs.declared.PlayAnswer.the-variants as play
 use Rattle.sections.specs.Spans.{Items, stepsOf, wordsOf}
-use Rattle.playing.specs.Performing.{entriesSaid, Ready, letterSection, AllPlayable, AllRise, messagesTogether, lastsTogether, rowsTogether, Planned, fitted, played, heard}
+use Rattle.playing.specs.Performing.{entriesSaid, Ready, letterSection, Spanned, messagesTogether, lastsTogether, totalOf, Heard, Found, rowsTogether, tuneTogether, fitted, played, heard}
 use Rattle.playing.proofs.Played.{refused-answer, refused-steps, refused-words, tune-short, tune-answer, tune-steps, tune-words}
-use Rattle.playing.proofs.Together.{letters-playable, letters-last, letters-sound, letters-count, letters-rise, short-enough}
+use Rattle.playing.proofs.Together.{together-is, rows-count, short-enough}
 
 module _ (voice : Voice) (header : ℕ) (body seek steps words : List ℕ) where
   abbrev items : Items
@@ -44,70 +46,104 @@ module _ (voice : Voice) (header : ℕ) (body seek steps words : List ℕ) where
     pub unordered-words : words ≡ wordsTable words (heard voice true header (min (length steps) (length words)) body seek)
     unordered-words = refused-words _ 17 header no-order words
 
+  -- the letters up to where playing stops
   module _ (ready : Ready voice true body seek) (letters : List ℕ)
       (order : orderOf true (itemsOf voice body) (entriesSaid true seek) ≡ some (map (letterSection (itemsOf voice body) (entriesSaid true seek)) letters))
-      (plan : Plan) (planned : Planned (itemsOf voice body) (length body) (entriesSaid true seek) letters plan) where
-    abbrev tune : Tune Event
-    tune = tuneOf isMessage (map (λ item. item .what) items) (map (letterSection items (entriesSaid true seek)) letters)
+      (found : FoundSpans) (finds : Found (itemsOf voice body) (length body) (entriesSaid true seek) letters found) where
+    pub found-within : found .letters ≤ length letters
+    found-within = finds .within
 
-    abbrev rows : List (At Event)
-    rows = rowsTogether items (plan .spans) 0 letters
+    module _ (front : List ℕ) (are : front ≡ take (found .letters) letters) where
+      pub found-heard : Heard (itemsOf voice body) (length body) (found .spans) front
+      found-heard = subst (Heard items (length body) (found .spans)) (sym are) (finds .heard)
 
-    order-is : heard voice true header room body seek ≡ fitted header room tune
-    unfolding heard played
-    order-is = rw order
+      order-is : fitted header room (tuneTogether items (found .spans) front) ≡ heard voice true header room body seek
+      unfolding heard played
+      order-is =
+          ap (fitted header room)
+          (together-is voice body (ready .reads) (entriesSaid true seek) (found .spans) letters front (are ∙ finds .are)
+          (subst (Spanned items (length body) (entriesSaid true seek) (found .spans)) (sym are) (finds .spanned)))
+          ∙ sym (rw order refl)
 
-    rows-are : rows ≡ tune .messages
-    unfolding tuneOf
-    rows-are = letters-sound voice body (ready .reads) (entriesSaid true seek) (plan .spans) 0 letters (planned .spans)
+      pub order-answer : (r : PlayAnswer) → r ≡ playAnswer (fitted header (min (length steps) (length words)) (tuneTogether (itemsOf voice body) (found .spans) front))
+          → r ≡ playAnswer (heard voice true header (min (length steps) (length words)) body seek)
+      order-answer r e = e ∙ ap playAnswer order-is
 
-    rows-many : plan .count ≡ length rows
-    rows-many =
-        planned .count ∙ letters-count voice body (ready .reads) (entriesSaid true seek) (plan .spans) 0 letters (planned .spans)
-        ∙ ap length (sym (letters-sound voice body (ready .reads) (entriesSaid true seek) (plan .spans) 0 letters (planned .spans)))
+      pub order-steps : (m : List ℕ) → m ≡ stepsTable steps (fitted header (min (length steps) (length words)) (tuneTogether (itemsOf voice body) (found .spans) front))
+          → m ≡ stepsTable steps (heard voice true header (min (length steps) (length words)) body seek)
+      order-steps m e = e ∙ ap (stepsTable steps) order-is
 
-    end-is : plan .end ≡ tune .end
-    unfolding tuneOf
-    end-is = planned .end ∙ letters-last items (length body) (entriesSaid true seek) (plan .spans) letters (planned .spans)
+      pub order-words : (m : List ℕ) → m ≡ wordsTable words (fitted header (min (length steps) (length words)) (tuneTogether (itemsOf voice body) (found .spans) front))
+          → m ≡ wordsTable words (heard voice true header (min (length steps) (length words)) body seek)
+      order-words m e = e ∙ ap (wordsTable words) order-is
 
-    pub order-playable : AllPlayable (itemsOf voice body) (length body) (plan .spans) letters
-    order-playable = letters-playable items (length body) (entriesSaid true seek) (plan .spans) letters (planned .spans)
+pub ruleset order-played = (unordered-answer, unordered-steps, unordered-words, found-within, found-heard, order-answer, order-steps, order-words)
 
-    pub order-rises : AllRise (itemsOf voice body) (plan .spans) letters
-    order-rises = letters-rise voice body (ready .reads) (entriesSaid true seek) (plan .spans) letters (planned .spans)
+-- LETTERS BY A TABLE of spans
 
-    pub order-short-enough : length letters ≤ 65536 → lastsTogether (plan .spans) letters ≤ 4611686018427387904
-    order-short-enough = short-enough (plan .spans) letters (planned .short)
+module _ (spans : List Span) (letters : List ℕ) (total : Total) (is : total ≡ totalOf spans letters) (least steps words : ℕ) (shorter : least ≡ min steps words)
+    (enough : total .count ≤ least) where
+  pub spans-steps-room : messagesTogether spans letters ≤ steps
+  unfolding totalOf
+  spans-steps-room = omega (arith, ap (λ (x : Total). x .count) is)
 
-    module _ (least : ℕ) (shorter : least ≡ min (length steps) (length words)) where
-      short : least < plan .count → heard voice true header room body seek ≡ refused 15 header
-      short h = tune-short _ header room tune order-is rows rows-are (plan .count) rows-many (omega arith)
+  pub spans-words-room : messagesTogether spans letters ≤ words
+  unfolding totalOf
+  spans-words-room = omega (arith, ap (λ (x : Total). x .count) is)
 
-      pub order-short : least < plan .count → play.Refused 15 header ≡ playAnswer (heard voice true header (min (length steps) (length words)) body seek)
-      order-short h = refused-answer _ 15 header (short h)
+module _ (voice : Voice) (header : ℕ) (body steps words : List ℕ) (spans : List Span) (letters : List ℕ) (reads : isFine (bodyOf voice body) ≡ true)
+    (h : Heard (itemsOf voice body) (length body) spans letters) where
+  pub spans-short-enough : lastsTogether spans letters ≤ 4611686018427387904
+  spans-short-enough = short-enough spans letters (h .short) (h .listed)
 
-      pub order-short-steps : least < plan .count → steps ≡ stepsTable steps (heard voice true header (min (length steps) (length words)) body seek)
-      order-short-steps h = refused-steps _ 15 header (short h) steps
+  abbrev tune : Tune Event
+  tune = tuneTogether (itemsOf voice body) spans letters
 
-      pub order-short-words : least < plan .count → words ≡ wordsTable words (heard voice true header (min (length steps) (length words)) body seek)
-      order-short-words h = refused-words _ 15 header (short h) words
+  abbrev outcome : Checked (Tune Event)
+  outcome = fitted header (min (length steps) (length words)) tune
 
-      module _ (enough : plan .count ≤ least) where
-        pub order-steps-room : messagesTogether (plan .spans) letters ≤ length steps
-        order-steps-room = omega (arith, planned .count)
+  rows-are : rowsTogether (itemsOf voice body) spans 0 letters ≡ tune .messages
+  unfolding tuneTogether
+  rows-are = refl
 
-        pub order-words-room : messagesTogether (plan .spans) letters ≤ length words
-        order-words-room = omega (arith, planned .count)
+  module _ (total : Total) (is : total ≡ totalOf spans letters) (least : ℕ) (shorter : least ≡ min (length steps) (length words)) where
+    count-is : total .count ≡ messagesTogether spans letters
+    unfolding totalOf
+    count-is = ap (λ (x : Total). x .count) is
 
-        pub order-answer : play.Rows (plan .count) (plan .end) ≡ playAnswer (heard voice true header (min (length steps) (length words)) body seek)
-        order-answer = tune-answer _ header room tune order-is rows rows-are (plan .count) rows-many (plan .end) end-is (omega arith)
+    many : total .count ≡ length (rowsTogether (itemsOf voice body) spans 0 letters)
+    many = count-is ∙ sym (rows-count voice body reads spans 0 letters (h .playable))
 
-        pub order-steps : (m : List ℕ) → m ≡ sets steps 0 (stepsOf (rowsTogether (itemsOf voice body) (plan .spans) 0 letters))
-            → m ≡ stepsTable steps (heard voice true header (min (length steps) (length words)) body seek)
-        order-steps m e = tune-steps _ header room tune order-is rows rows-are (plan .count) rows-many steps m (omega arith) (omega arith) e
+    end-is : total .end ≡ tune .end
+    unfolding totalOf tuneTogether
+    end-is = ap (λ (x : Total). x .end) is
 
-        pub order-words : (m : List ℕ) → m ≡ sets words 0 (wordsOf (rowsTogether (itemsOf voice body) (plan .spans) 0 letters))
-            → m ≡ wordsTable words (heard voice true header (min (length steps) (length words)) body seek)
-        order-words m e = tune-words _ header room tune order-is rows rows-are (plan .count) rows-many words m (omega arith) (omega arith) e
+    short : least < total .count → outcome ≡ refused 15 header
+    short few = tune-short _ header (min (length steps) (length words)) tune refl _ rows-are (total .count) many (omega arith)
 
-pub ruleset order-played = (unordered-answer, unordered-steps, unordered-words, order-playable, order-rises, order-short-enough, order-short, order-short-steps, order-short-words, order-steps-room, order-words-room, order-answer, order-steps, order-words)
+    pub spans-short : least < total .count → play.Refused 15 header ≡ playAnswer (fitted header (min (length steps) (length words)) (tuneTogether (itemsOf voice body) spans letters))
+    spans-short few = refused-answer _ 15 header (short few)
+
+    pub spans-short-steps : least < total .count
+        → steps ≡ stepsTable steps (fitted header (min (length steps) (length words)) (tuneTogether (itemsOf voice body) spans letters))
+    spans-short-steps few = refused-steps _ 15 header (short few) steps
+
+    pub spans-short-words : least < total .count
+        → words ≡ wordsTable words (fitted header (min (length steps) (length words)) (tuneTogether (itemsOf voice body) spans letters))
+    spans-short-words few = refused-words _ 15 header (short few) words
+
+    module _ (enough : total .count ≤ least) where
+      pub spans-answer : play.Rows (total .count) (total .end)
+          ≡ playAnswer (fitted header (min (length steps) (length words)) (tuneTogether (itemsOf voice body) spans letters))
+      spans-answer = tune-answer _ header (min (length steps) (length words)) tune refl _ rows-are (total .count) many (total .end) end-is (omega arith)
+
+      pub spans-steps : (m : List ℕ) → m ≡ sets steps 0 (stepsOf (rowsTogether (itemsOf voice body) spans 0 letters))
+          → m ≡ stepsTable steps (fitted header (min (length steps) (length words)) (tuneTogether (itemsOf voice body) spans letters))
+      spans-steps m e = tune-steps _ header (min (length steps) (length words)) tune refl _ rows-are (total .count) many steps m (omega arith) (omega arith) e
+
+      pub spans-words : (m : List ℕ) → m ≡ sets words 0 (wordsOf (rowsTogether (itemsOf voice body) spans 0 letters))
+          → m ≡ wordsTable words (fitted header (min (length steps) (length words)) (tuneTogether (itemsOf voice body) spans letters))
+      spans-words m e = tune-words _ header (min (length steps) (length words)) tune refl _ rows-are (total .count) many words m (omega arith) (omega arith) e
+
+pub ruleset spans-played =
+    (spans-short-enough, spans-short, spans-short-steps, spans-short-words, spans-steps-room, spans-words-room, spans-answer, spans-steps, spans-words)

@@ -10,17 +10,17 @@ use borrow.Author.Tests.{eqb-false, ltb-false, not-true}
 use Rattle.model.specs.Words.{_<?_, _≡?_, isSome, _otherwise_, firstSaid, Placed, passed}
 use Rattle.model.specs.Item.{isFine, found, itemsOf}
 use Rattle.model.specs.Seek.{Entry, Entry.start, Entry.stop, Entry.phrase, Entry.order, seekOf, Addresses, startPoint, phraseIn, phraseOf, foundPhrase}
-use Rattle.model.specs.Points.{isAddress, timeOf, isSpan, isPosition, pointHolds, pointsHold}
-use Rattle.model.specs.Order.{between, phraseSection}
+use Rattle.model.specs.Points.{isAddress, isSpan, isPosition, pointHolds, pointsHold}
+use Rattle.model.specs.Order.{phraseSection}
 use Rattle.model.specs.Track.{pointWidth, pointsOf}
 use Rattle.model.specs.declared.Voice.{Voice}
-use Rattle.model.specs.declared.Span.{Span}
+use Rattle.model.specs.declared.Passage.{Passage}
 use Rattle.model.specs.declared.FoundPhrase.{FoundPhrase}
 use Rattle.model.specs.declared.FoundPhrase.the-variants.{Between, Nowhere}
-use Rattle.sections.specs.Spans.{Items, spanOf}
+use Rattle.sections.specs.Spans.{Items, passageOf, passageBetween}
 use Rattle.model.proofs.Tests.{by-test, if-true, if-false, and-left, and-right}
 use Rattle.playing.proofs.Said.{said-by, both-pass, kept}
-use Rattle.playing.specs.Performing.{Ready, entriesSaid, letterSection, letterSpan}
+use Rattle.playing.specs.Performing.{Ready, entriesSaid, letterSection, letterPassage}
 
 -- an entry that says a letter's phrase and keeps the rules is a span
 entry-spans : (address point : ℕ → Bool) (started letter : ℕ) (entry : Entry) (addresses : Addresses) → phraseIn letter entry ≡ some addresses
@@ -81,7 +81,7 @@ module _ (voice : Voice) (body seek : List ℕ) (letter : ℕ) (ready : Ready vo
     told : (answer : FoundPhrase) → r ≡ answer → foundPhrase (phraseOf letter (entriesSaid true seek)) ≡ answer
     told answer e = ap (λ (entries : List (Placed Entry)). foundPhrase (phraseOf letter entries)) (said .1) ∙ sym is ∙ e
 
-    pub letter-never : r ≡ Nowhere → (z : Span) → z ≡ letterSpan (itemsOf voice body) (length body) (entriesSaid true seek) letter
+    pub letter-never : r ≡ Nowhere → (z : Passage) → z ≡ letterPassage (itemsOf voice body) (length body) (entriesSaid true seek) letter
     letter-never e z = absurd (found-never _ named (told Nowhere e))
 
     module _ (from to : ℕ) (e : r ≡ Between from to) where
@@ -103,9 +103,9 @@ module _ (voice : Voice) (body seek : List ℕ) (letter : ℕ) (ready : Ready vo
       unfolding isSpan
       letter-ordered = ltb-false to from (not-true (to <? from) (and-right _ _ (and-right _ _ spans)))
 
-      pub letter-is : (z : Span) → z ≡ spanOf (itemsOf voice body) (length body) (between (timeOf (itemsOf voice body) from) (timeOf (itemsOf voice body) to))
-          → z ≡ letterSpan (itemsOf voice body) (length body) (entriesSaid true seek) letter
-      unfolding letterSpan letterSection phraseSection
-      letter-is z q = q ∙ ap (λ (o : Option Addresses). spanOf (itemsOf voice body) (length body) (phraseSection (itemsOf voice body) o)) (sym phrase-said)
+      pub letter-is : (z : Passage) → z ≡ passageBetween (itemsOf voice body) (length body) from to
+          → z ≡ letterPassage (itemsOf voice body) (length body) (entriesSaid true seek) letter
+      unfolding letterPassage letterSection phraseSection
+      letter-is z q = q ∙ ap (λ (o : Option Addresses). passageOf (itemsOf voice body) (length body) (phraseSection (itemsOf voice body) o)) (sym phrase-said)
 
 pub ruleset phrased = (letter-formed, letter-never, letter-starts, letter-stops, letter-ordered, letter-is)

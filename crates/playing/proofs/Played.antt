@@ -3,7 +3,7 @@
 use Prim.Native.Nat.{ℕ, _/_, _<_, _≤_, min}
 use mathlib.Core.Path.{_≡_, refl, sym, _∙_, ap, ap₂}
 use mathlib.Core.Bool.{false}
-use mathlib.Core.List.{List, [], _∷_, _++_, map, append-nil}
+use mathlib.Core.List.{List, [], _∷_, _++_, append-nil}
 use lib.ListN.{length, drop, length-map}
 use lib.Seq.{sets, sets-eq}
 use native.Mathlib.Nat.{zero-add, add-zero}
@@ -12,7 +12,7 @@ use borrow.Author.Tests.{lt-ltb, le-ltb}
 use Rattle.model.specs.Words.{sum, _otherwise_, Checked, Checked.fine, Checked.refused, if_then_else_}
 use Rattle.model.specs.Item.{itemsOf}
 use Rattle.model.specs.Seek.{startPoint, stopPoint}
-use Rattle.model.specs.Play.{At, Section, Tune, onsetsAfter, sounding, playedFrom, tuneOf}
+use Rattle.model.specs.Play.{At, Section, Tune, onsetsAfter, sounding, lastsIn, playedFrom, allPlayed, tuneOf}
 use Rattle.model.specs.Word.{isMessage, wordOf}
 use Rattle.model.specs.Order.{streamSection, orderOf}
 use Rattle.model.specs.Answer.{writtenOver, memoryAfter, playAnswer, stepsTable, wordsTable}
@@ -22,6 +22,7 @@ use Rattle.model.specs.declared.Span.{Span}
 use Rattle.model.specs.declared.PlayAnswer.the-variants as play
 use Rattle.sections.specs.Spans.{Items, spanOf, spanRows, stepsOf, wordsOf, Playable}
 use Rattle.sections.proofs.Stretches.{span-sounds, span-counts}
+use Rattle.sections.proofs.WholeStream.{played-alone}
 use Rattle.playing.specs.Performing.{entriesSaid, Ready, fitted, played, heard}
 
 -- a refusal answers its number and place, and keeps the tables
@@ -102,7 +103,7 @@ module _ (voice : Voice) (header : ℕ) (body seek steps words : List ℕ) (read
   section = streamSection items (startPoint (entriesSaid false seek) otherwise 0) (stopPoint (entriesSaid false seek))
 
   abbrev tune : Tune Event
-  tune = tuneOf isMessage (map (λ item. item .what) items) (section ∷ [])
+  tune = tuneOf isMessage items (section ∷ [])
 
   abbrev room : ℕ
   room = min (length steps) (length words)
@@ -112,10 +113,10 @@ module _ (voice : Voice) (header : ℕ) (body seek steps words : List ℕ) (read
   stream-is = refl
 
   rows-are : spanRows items span 0 ≡ tune .messages
-  unfolding tuneOf playedFrom
+  unfolding allPlayed playedFrom
   rows-are =
       ap (λ (one : Span). spanRows items one 0) is ∙ span-sounds voice body (ready .reads) section 0
-      ∙ sym (append-nil (sounding isMessage (onsetsAfter 0 (map (λ item. item .what) items)) 0 section))
+      ∙ sym (ap (λ (t : Tune Event). t .messages) (played-alone items section) ∙ append-nil (sounding isMessage (onsetsAfter 0 items) 0 section))
 
   rows-many : span .messages ≡ length (spanRows items span 0)
   rows-many =
@@ -123,8 +124,9 @@ module _ (voice : Voice) (header : ℕ) (body seek steps words : List ℕ) (read
       ∙ ap (λ (one : Span). length (spanRows items one 0)) (sym is)
 
   lasts-are : span .lasts ≡ tune .end
-  unfolding tuneOf sum spanOf
-  lasts-are = ap (λ (one : Span). one .lasts) is ∙ sym (add-zero (section .lasts))
+  unfolding allPlayed sum spanOf
+  lasts-are =
+      ap (λ (one : Span). one .lasts) is ∙ sym (ap (λ (t : Tune Event). t .end) (played-alone items section) ∙ add-zero (lastsIn (onsetsAfter 0 items) section))
 
   pub stream-playable : Playable (itemsOf voice body) (length body) span
   stream-playable = record { section = section; is = is }

@@ -17,9 +17,10 @@ use Rattle.model.specs.declared.Voice.{Voice}
 use Rattle.model.specs.declared.Event.{Event}
 use Rattle.model.specs.declared.Points.{Points}
 use Rattle.model.specs.declared.Span.{Span}
+use Rattle.model.specs.declared.Passage.{Passage}
 use Rattle.model.proofs.Tests.{and-left, and-right}
 use Rattle.items.proofs.Addresses.{head-there}
-use Rattle.sections.specs.Spans.{spanOf, spanBetween, spanFrom}
+use Rattle.sections.specs.Spans.{spanOf, passageOf, passageBetween, spanFrom}
 use Rattle.playing.proofs.Said.{said-by, kept}
 use Rattle.playing.specs.Performing.{entriesSaid, Formed, Ready}
 
@@ -124,11 +125,11 @@ module _ (voice : Voice) (body seek : List ℕ) (ready : Ready voice false body 
     pub stream-rises : points .start ≤ points .stop
     stream-rises = let h = stop-holds _ _ entries holds (stopped .0) (stopped .1) .1 in omega (arith, started, stop-said)
 
-    pub stream-between : (r : Span) → r ≡ spanBetween (itemsOf voice body) (length body) (points .start) (points .stop)
-        → r ≡ spanOf (itemsOf voice body) (length body)
+    pub stream-between : (r : Passage) → r ≡ passageBetween (itemsOf voice body) (length body) (points .start) (points .stop)
+        → r .span ≡ spanOf (itemsOf voice body) (length body)
         (streamSection (itemsOf voice body) (startPoint (entriesSaid false seek) otherwise 0) (stopPoint (entriesSaid false seek)))
-    unfolding streamSection
-    stream-between r e = rw (stopped .1, sym started, sym stop-said) e
+    unfolding passageOf streamSection
+    stream-between r e = rw (stopped .1, sym started, sym stop-said) (ap (λ (x : Passage). x .span) e)
 
   pub stream-open : (r : Span) → points .stops ≡ false → r ≡ spanFrom (itemsOf voice body) (length body) (points .start)
       → r ≡ spanOf (itemsOf voice body) (length body)

@@ -51,3 +51,9 @@ module _ {A : Type 0} (default : A) (Right : ℕ → A → Type 0) where
               (λ t. let e = eqb-true other slot t in rw e (getD-set-same known slot true false (omega (arith, table .flagged))))
               (λ t. let e = eqb-false other slot t in getD-set-other known slot other true false e ∙ h);
         })
+
+-- what is right in one sense is in another that follows from it
+pub table-weaken : {A : Type 0} (default : A) (Right Other : ℕ → A → Type 0) (values : List A) (known : List Bool)
+    → ((slot : ℕ) (a : A) → Right slot a → Other slot a) → Table default Right values known → Table default Other values known
+table-weaken default Right Other values known follows table =
+    record { wide = table .wide; flagged = table .flagged; right = λ slot h. follows slot _ (table .right slot h) }

@@ -1,12 +1,13 @@
 -- What every accepted play has, whatever the file: its steps never fall from row to row and none is past the end; a stream without points
--- plays every message of its body, each at its onset; and two results that satisfy the promise of PLAY are equal.
+-- plays every message before the first end mark of its body, each at its onset, and ends at that mark; and two results that satisfy the promise of PLAY are equal.
 use Prim.Native.Nat.{ℕ, min}
 use mathlib.Core.Path.{_≡_, sym, _∙_, ap, ap₂, subst}
 use mathlib.Core.Bool.{Bool, true, false, false≢true}
-use mathlib.Core.List.{List, [], _∷_, map}
+use mathlib.Core.List.{List, [], _∷_}
 use mathlib.Core.Option.{Option, none, some}
 use lib.ListN.{length}
 use Rattle.model.specs.Words.{_otherwise_, Placed, Checked.fine}
+use Rattle.model.specs.Item.{lasting}
 use Rattle.model.specs.Seek.{Entry, startPoint, stopPoint}
 use Rattle.model.specs.Play.{Section, Tune, tuneOf}
 use Rattle.model.specs.Word.{isMessage}
@@ -19,7 +20,7 @@ use Rattle.model.specs.declared.PlayAnswer.{PlayAnswer}
 use Rattle.model.proofs.Outcomes.{then-fine, bind-fine}
 use Rattle.reading.proofs.Performed.{performed-so}
 use Rattle.sections.specs.Spans.{Items, Rising, messagesAfter}
-use Rattle.sections.proofs.WholeStream.{stream-messages}
+use Rattle.sections.proofs.WholeStream.{toMark, stream-messages, stream-end}
 use Rattle.sections.proofs.Tunes.{tune-rises}
 
 -- THE TRACK that an accepted play is of, and the order it plays in
@@ -69,13 +70,16 @@ stream-order false items entries sections stream start stop e =
     sym only ∙ ap₂ (λ (from to : Option ℕ). streamSection items (from otherwise 0) to ∷ []) start stop
 
 pub whole-stream : (track : Track) (sections : List Section) → playOrder track ≡ some sections → track .phrases ≡ false
-    → startPoint (track .entries) ≡ none → stopPoint (track .entries) ≡ none → tuneIn track sections .messages ≡ messagesAfter 0 (track .items)
+    → startPoint (track .entries) ≡ none → stopPoint (track .entries) ≡ none
+    → (tuneIn track sections .messages ≡ messagesAfter 0 (toMark (track .items))) × (tuneIn track sections .end ≡ lasting (toMark (track .items)))
 unfolding playOrder tuneIn
 whole-stream track sections orders stream start stop =
     let items = track .items in
-    ap (λ (order : List Section). tuneOf isMessage (map (λ item. item .what) items) order .messages)
-    (stream-order (track .phrases) items (track .entries) sections stream start stop orders)
-    ∙ stream-messages items
+    let same =
+    ap (tuneOf isMessage items) (stream-order (track .phrases) items (track .entries) sections stream start stop orders) in (
+      ap (λ (tune : Tune Event). tune .messages) same ∙ stream-messages items,
+      ap (λ (tune : Tune Event). tune .end) same ∙ stream-end items,
+    )
 
 -- TWO RESULTS that satisfy the promise are equal
 

@@ -3,14 +3,14 @@
 use Prim.Native.Nat.{ℕ, _+_, _<_, _≤_}
 use mathlib.Core.Path.{_≡_}
 use mathlib.Core.Bool.{Bool, true}
-use mathlib.Core.List.{List, [], _∷_, _++_, map}
+use mathlib.Core.List.{List, [], _∷_, _++_}
 use mathlib.Core.Option.{Option, none, some}
-use lib.ListN.{length, getD}
-use Rattle.model.specs.Words.{if_then_else_, _<?_, _≡?_, isSome, Placed, Checked, Checked.fine, Checked.refused, passed, _>>=_, _>>_}
+use lib.ListN.{length, take, getD}
+use Rattle.model.specs.Words.{if_then_else_, _<?_, _≡?_, through, isSome, Placed, Checked, Checked.fine, Checked.refused, passed, _>>=_, _>>_}
 use Rattle.model.specs.Bytes.{_!_, part}
 use Rattle.model.specs.Item.{isFine, found, bodyOf, itemsOf}
 use Rattle.model.specs.Seek.{Entry, seekOf, phraseOf}
-use Rattle.model.specs.Play.{At, Section, Tune, tuneOf}
+use Rattle.model.specs.Play.{At, Section, Tune, onsetsAfter, stopsIn, tuneOf}
 use Rattle.model.specs.Word.{isMessage}
 use Rattle.model.specs.Order.{phraseSection, orderOf, playOrder}
 use Rattle.model.specs.Track.{Track, pointWidth, pointsOf}
@@ -20,12 +20,14 @@ use Rattle.model.specs.declared.Voice.{Voice}
 use Rattle.model.specs.declared.Event.{Event}
 use Rattle.model.specs.declared.Points.{Points}
 use Rattle.model.specs.declared.Span.{Span}
-use Rattle.model.specs.declared.Plan.{Plan}
+use Rattle.model.specs.declared.Passage.{Passage}
+use Rattle.model.specs.declared.FoundSpans.{FoundSpans}
+use Rattle.model.specs.declared.Total.{Total}
 use Rattle.model.specs.declared.Bodies.{Bodies}
 use Rattle.model.specs.declared.Extent.{Extent}
 use Rattle.model.specs.declared.OpenedTrack.{OpenedTrack}
 use Rattle.model.specs.declared.OpenedTrack.the-variants as opened
-use Rattle.sections.specs.Spans.{Items, spanOf, spanRows, Playable, SpanRises}
+use Rattle.sections.specs.Spans.{Items, spanOf, passageOf, spanRows, Playable, SpanRises}
 use Rattle.sections.specs.Taking.{AllBytes}
 
 -- the entries of a seek body; a track without a seek chunk has none
@@ -99,8 +101,15 @@ spanAt spans letter = getD spans letter noSpan
 unfoldable pub letterSection : Items → List (Placed Entry) → ℕ → Section
 letterSection items entries letter = phraseSection items (phraseOf letter entries)
 
+unfoldable pub letterPassage : Items → ℕ → List (Placed Entry) → ℕ → Passage
+letterPassage items size entries letter = passageOf items size (letterSection items entries letter)
+
 unfoldable pub letterSpan : Items → ℕ → List (Placed Entry) → ℕ → Span
 letterSpan items size entries letter = spanOf items size (letterSection items entries letter)
+
+-- the letters that are played: those up to and with the first in whose section playing stops
+unfoldable pub lettersHeard : Items → List (Placed Entry) → List ℕ → List ℕ
+lettersHeard items entries letters = through (λ letter. stopsIn (onsetsAfter 0 items) (letterSection items entries letter)) letters
 
 -- every letter of a list has a phrase
 abbrev pub Named : List (Placed Entry) → List ℕ → Type 0
@@ -132,24 +141,24 @@ unfoldable pub lastsTogether : List Span → List ℕ → ℕ
 lastsTogether spans [] = 0
 lastsTogether spans (letter ∷ letters) = spanAt spans letter .lasts + lastsTogether spans letters
 
--- the spans of the letters of a list, as they are found
-pub record Found (items : Items) (size : ℕ) (entries : List (Placed Entry)) (letters : List ℕ) (spans : List Span) : Type 0 where
+unfoldable pub totalOf : List Span → List ℕ → Total
+totalOf spans letters = record { count = messagesTogether spans letters; end = lastsTogether spans letters }
+
+-- WHAT IS NEEDED to play letters by a table of spans: that these are spans of the body, whose steps never fall, and that all can be counted.
+pub record Heard (items : Items) (size : ℕ) (spans : List Span) (letters : List ℕ) : Type 0 where
   pub bytes : AllBytes letters
-  pub are : Spanned items size entries spans letters
+  pub listed : length letters ≤ 65536
+  pub playable : AllPlayable items size spans letters
+  pub rise : AllRise items spans letters
   pub few : AllFew spans letters
   pub short : AllShort spans letters
 
--- and what they come to together
-pub record Added (spans : List Span) (letters : List ℕ) (plan : Plan) : Type 0 where
-  pub same : plan .spans ≡ spans
-  pub count : plan .count ≡ messagesTogether spans letters
-  pub end : plan .end ≡ lastsTogether spans letters
-
-pub record Planned (items : Items) (size : ℕ) (entries : List (Placed Entry)) (letters : List ℕ) (plan : Plan) : Type 0 where
-  pub spans : Spanned items size entries (plan .spans) letters
-  pub count : plan .count ≡ messagesTogether (plan .spans) letters
-  pub end : plan .end ≡ lastsTogether (plan .spans) letters
-  pub short : AllShort (plan .spans) letters
+-- the spans of the letters of a list that are played, as they are found
+pub record Found (items : Items) (size : ℕ) (entries : List (Placed Entry)) (letters : List ℕ) (found : FoundSpans) : Type 0 where
+  pub within : found .letters ≤ length letters
+  pub are : take (found .letters) letters ≡ lettersHeard items entries letters
+  pub spanned : Spanned items size entries (found .spans) (take (found .letters) letters)
+  pub heard : Heard items size (found .spans) (take (found .letters) letters)
 
 -- the rows of letters, one span after the other, where so much has been played before
 unfoldable pub rowsTogether : Items → List Span → ℕ → List ℕ → List (At Event)
@@ -157,13 +166,17 @@ rowsTogether items spans before [] = []
 rowsTogether items spans before (letter ∷ letters) =
     spanRows items (spanAt spans letter) before ++ rowsTogether items spans (before + spanAt spans letter .lasts) letters
 
+-- what letters play together
+unfoldable pub tuneTogether : Items → List Span → List ℕ → Tune Event
+tuneTogether items spans letters = record { messages = rowsTogether items spans 0 letters; end = lastsTogether spans letters }
+
 -- PLAYED: 17 where there is no order, then 15, at the track's header
 unfoldable pub fitted : ℕ → ℕ → Tune Event → Checked (Tune Event)
 fitted header room tune = if room <? length (tune .messages) then refused 15 header else fine tune
 
 unfoldable pub played : ℕ → ℕ → Items → Option (List Section) → Checked (Tune Event)
 played header room items none = refused 17 header
-played header room items (some sections) = fitted header room (tuneOf isMessage (map (λ item. item .what) items) sections)
+played header room items (some sections) = fitted header room (tuneOf isMessage items sections)
 
 -- what a track plays, from its bodies
 unfoldable pub heard : Voice → Bool → ℕ → ℕ → List ℕ → List ℕ → Checked (Tune Event)

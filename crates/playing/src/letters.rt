@@ -1,20 +1,22 @@
-// The letters of an order list: the span of each phrase that they name is found once, its messages and its length are added letter by
-// letter, and only then are rows written.
+// The letters of an order list: the span of each phrase that they name is found once, up to where playing stops; its messages and its length
+// are added letter by letter, and only then are rows written.
 ghost use mathlib.Core.Path.{_≡_};
 ghost use mathlib.Core.Bool.{true};
 ghost use Prim.Native.Nat.{_≤_};
-ghost use lib.ListN.{length};
+ghost use lib.ListN.{length, take};
 ghost use lib.Seq.{sets};
 ghost use Rattle.model.specs.Words.{isSome};
 ghost use Rattle.model.specs.Item.{isFine, bodyOf, itemsOf};
 ghost use Rattle.model.specs.Seek.{phraseOf};
 ghost use Rattle.sections.specs.Spans.{stepsOf, wordsOf};
 ghost use Rattle.sections.specs.Taking.{AllBytes};
-ghost use Rattle.playing.specs.Performing.{Ready, entriesSaid, letterSpan, noSpan, Named, Found, Added, Planned};
-ghost use Rattle.playing.specs.Performing.{AllPlayable, AllRise, AllFew, AllShort, messagesTogether, lastsTogether, rowsTogether};
+ghost use Rattle.playing.specs.Performing.{Ready, entriesSaid, letterPassage, noSpan, Named, Found};
+ghost use Rattle.playing.specs.Performing.{AllPlayable, AllRise, AllFew, AllShort, messagesTogether, lastsTogether, rowsTogether, totalOf};
 use model::FoundPhrase;
-use model::Plan;
+use model::FoundSpans;
+use model::Passage;
 use model::Span;
+use model::Total;
 use model::Voice;
 
 fn no_span() -> Span
@@ -29,22 +31,26 @@ fn no_span() -> Span
     }
 }
 
-// The span of a letter's phrase.
-fn span_of_letter(voice: Voice, body: &[u8], seek: &[u8], letter: u8) -> Span
+// The span of a letter's phrase, and whether playing stops in it.
+fn passage_of_letter(voice: Voice, body: &[u8], seek: &[u8], letter: u8) -> Passage
     requires { ⌜ Ready voice true (now body) (now seek) ⌝ }
     requires { ⌜ isSome (phraseOf letter (entriesSaid true (now seek))) ≡ true ⌝ }
-    ensures { λ r. ⌜ r ≡ letterSpan (itemsOf voice (now (body .entry))) (length (now (body .entry))) (entriesSaid true (now (seek .entry))) letter ⌝ }
+    ensures { λ r. ⌜ r ≡ letterPassage (itemsOf voice (now (body .entry))) (length (now (body .entry))) (entriesSaid true (now (seek .entry))) letter ⌝ }
 {
     match seek::find_phrase(true, seek, letter) {
         FoundPhrase::Between { start, stop } => {
             sections::span_between(voice, body, start as usize, stop as usize)
         }
-        FoundPhrase::Nowhere => no_span(),
+        FoundPhrase::Nowhere => Passage {
+            span: no_span(),
+            stops: false,
+        },
     }
 }
 
-// The span of each letter that a list names, found where the letter comes first.
-pub fn find_spans(voice: Voice, body: &[u8], seek: &[u8], letters: &[u8]) -> [Span; 256]
+// The span of each letter that a list names, found where the letter comes first; no letter is looked at behind the first in whose section
+// playing stops.
+pub fn find_spans(voice: Voice, body: &[u8], seek: &[u8], letters: &[u8]) -> FoundSpans
     requires { ⌜ Ready voice true (now body) (now seek) ⌝ }
     requires { ⌜ length (now letters) ≤ 65536 ⌝ }
     requires { ⌜ Named (entriesSaid true (now seek)) (now letters) ⌝ }
@@ -57,21 +63,37 @@ pub fn find_spans(voice: Voice, body: &[u8], seek: &[u8], letters: &[u8]) -> [Sp
         let letter = letters[i];
         let slot = letter as usize;
         if !known[slot] {
-            spans[slot] = span_of_letter(voice, body, seek, letter);
+            let passage = passage_of_letter(voice, body, seek, letter);
+            let span = passage.span;
+            spans[slot] = span;
             known[slot] = true;
+            if passage.stops {
+                return FoundSpans {
+                    spans,
+                    letters: i + 1,
+                };
+            }
         }
         i += 1;
     }
-    spans
+    FoundSpans { spans, letters: i }
 }
 
-// The spans of letters, and what they come to together.
-fn add_spans(spans: [Span; 256], letters: &[u8]) -> Plan
+// The first so many letters.
+pub fn letters_heard<'a>(letters: &'a [u8], count: usize) -> &'a [u8]
+    requires { ⌜ count ≤ length (now letters) ⌝ }
+    ensures { λ r. ⌜ now r ≡ take count (now (letters .entry)) ⌝ }
+{
+    &letters[..count]
+}
+
+// What the spans of letters come to together.
+pub fn add_spans(spans: [Span; 256], letters: &[u8]) -> Total
     requires { ⌜ AllBytes (now letters) ⌝ }
     requires { ⌜ length (now letters) ≤ 65536 ⌝ }
     requires { ⌜ AllFew spans (now letters) ⌝ }
     requires { ⌜ AllShort spans (now letters) ⌝ }
-    ensures { λ r. ⌜ Added spans (now (letters .entry)) r ⌝ }
+    ensures { λ r. ⌜ r ≡ totalOf spans (now (letters .entry)) ⌝ }
 {
     let mut count: usize = 0;
     let mut end: u64 = 0;
@@ -82,17 +104,7 @@ fn add_spans(spans: [Span; 256], letters: &[u8]) -> Plan
         end += span.lasts;
         i += 1;
     }
-    Plan { spans, count, end }
-}
-
-pub fn plan_letters(voice: Voice, body: &[u8], seek: &[u8], letters: &[u8]) -> Plan
-    requires { ⌜ Ready voice true (now body) (now seek) ⌝ }
-    requires { ⌜ length (now letters) ≤ 65536 ⌝ }
-    requires { ⌜ Named (entriesSaid true (now seek)) (now letters) ⌝ }
-    ensures { λ r. ⌜ Planned (itemsOf voice (now (body .entry))) (length (now (body .entry))) (entriesSaid true (now (seek .entry))) (now (letters .entry)) r ⌝ }
-{
-    let spans = find_spans(voice, body, seek, letters);
-    add_spans(spans, letters)
+    Total { count, end }
 }
 
 // The rows of all letters of a list, one section after the other. A section that is played again is copied from where it was written last.

@@ -9,6 +9,7 @@ mod stream;
 pub use bodies::bytes_in;
 pub use bodies::open_track;
 pub use letters::find_spans;
+pub use letters::letters_heard;
 pub use operation::play;
 pub use phrases::letters_played;
 pub use stream::points_of;

@@ -6,16 +6,19 @@ ghost use mathlib.Core.Option.{some};
 ghost use Prim.Native.Nat.{_+_, _-_, _≤_, min};
 ghost use lib.ListN.{length};
 ghost use Rattle.model.specs.Bytes.{part};
-ghost use Rattle.model.specs.Item.{itemsOf};
+ghost use Rattle.model.specs.Item.{isFine, bodyOf, itemsOf};
 ghost use Rattle.model.specs.Order.{orderOf};
 ghost use Rattle.model.specs.Answer.{playAnswer, stepsTable, wordsTable};
-ghost use Rattle.playing.specs.Performing.{entriesSaid, Ready, Listed, lastPosition, letterSection, Named, heard};
-use super::letters::plan_letters;
+ghost use Rattle.playing.specs.Performing.{entriesSaid, Ready, Listed, lastPosition, letterSection, Named, Heard, tuneTogether, fitted, heard};
+use super::letters::add_spans;
+use super::letters::find_spans;
+use super::letters::letters_heard;
 use super::letters::write_letters;
 use super::stream::points_of;
 use super::stream::shorter;
 use model::PlayAnswer;
 use model::Points;
+use model::Span;
 use model::Voice;
 
 fn last_position(points: Points) -> usize
@@ -37,7 +40,38 @@ pub fn letters_played<'a>(seek: &'a [u8], points: Points) -> &'a [u8]
     &seek[from..to]
 }
 
-// The letters that are played, planned, and written where they have room.
+// Letters whose spans are known, written where they have room.
+fn play_spans(
+    voice: Voice,
+    header: usize,
+    body: &[u8],
+    spans: [Span; 256],
+    letters: &[u8],
+    steps: &mut [u64],
+    words: &mut [u32],
+) -> PlayAnswer
+    requires { ⌜ length (now body) ≤ 65536 ⌝ }
+    requires { ⌜ isFine (bodyOf voice (now body)) ≡ true ⌝ }
+    requires { ⌜ Heard (itemsOf voice (now body)) (length (now body)) spans (now letters) ⌝ }
+    ensures { λ r. ⌜ r ≡ playAnswer (fitted header (min (length (now (steps .entry))) (length (now (words .entry)))) (tuneTogether (itemsOf voice (now (body .entry))) spans (now (letters .entry)))) ⌝ }
+    ensures { λ _. ⌜ now (steps .exit) ≡ stepsTable (now (steps .entry)) (fitted header (min (length (now (steps .entry))) (length (now (words .entry)))) (tuneTogether (itemsOf voice (now (body .entry))) spans (now (letters .entry)))) ⌝ }
+    ensures { λ _. ⌜ now (words .exit) ≡ wordsTable (now (words .entry)) (fitted header (min (length (now (steps .entry))) (length (now (words .entry)))) (tuneTogether (itemsOf voice (now (body .entry))) spans (now (letters .entry)))) ⌝ }
+{
+    let total = add_spans(spans, letters);
+    if shorter(steps, words) < total.count {
+        return PlayAnswer::Refused {
+            number: 15,
+            place: header,
+        };
+    }
+    write_letters(voice, body, spans, letters, steps, words);
+    PlayAnswer::Rows {
+        count: total.count,
+        end: total.end,
+    }
+}
+
+// The letters of an order, up to the one in whose section playing stops.
 fn play_letters(
     voice: Voice,
     header: usize,
@@ -55,19 +89,17 @@ fn play_letters(
     ensures { λ _. ⌜ now (steps .exit) ≡ stepsTable (now (steps .entry)) (heard voice true header (min (length (now (steps .entry))) (length (now (words .entry)))) (now (body .entry)) (now (seek .entry))) ⌝ }
     ensures { λ _. ⌜ now (words .exit) ≡ wordsTable (now (words .entry)) (heard voice true header (min (length (now (steps .entry))) (length (now (words .entry)))) (now (body .entry)) (now (seek .entry))) ⌝ }
 {
-    let plan = plan_letters(voice, body, seek, letters);
-    if shorter(steps, words) < plan.count {
-        return PlayAnswer::Refused {
-            number: 15,
-            place: header,
-        };
-    }
-    let spans = plan.spans;
-    write_letters(voice, body, spans, letters, steps, words);
-    PlayAnswer::Rows {
-        count: plan.count,
-        end: plan.end,
-    }
+    let found = find_spans(voice, body, seek, letters);
+    let spans = found.spans;
+    play_spans(
+        voice,
+        header,
+        body,
+        spans,
+        letters_heard(letters, found.letters),
+        steps,
+        words,
+    )
 }
 
 pub fn play_phrases(

@@ -43,7 +43,12 @@ pub fn span_of_stream(voice: Voice, body: &[u8], seek: &[u8]) -> Span
 {
     let points = points_of(false, seek);
     if points.stops {
-        return sections::span_between(voice, body, points.start as usize, points.stop as usize);
+        return sections::span_between(
+            voice,
+            body,
+            points.start as usize,
+            points.stop as usize,
+        ).span;
     }
     sections::span_from(voice, body, points.start as usize)
 }

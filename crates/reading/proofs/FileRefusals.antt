@@ -9,7 +9,7 @@ use mathlib.Core.Path.{_≡_, refl, subst}
 use lib.ListN.{length, take}
 use native.Mathlib.Omega.{arith}
 use Rattle.model.specs.Words.{if_then_else_, Checked, Checked.fine, Checked.refused, _>>=_, _>>_, passed, countedFrom, each, allPass, Step, Step.met, Step.stuck, walkTo, inTurn, Placed}
-use Rattle.model.specs.Item.{Item, itemAt, itemMet, itemStep, markIsLast, bodyOf, messageMet, setupStep, setupMessageAt, setupOf}
+use Rattle.model.specs.Item.{Item, itemAt, itemMet, itemStep, bodyOf, messageMet, setupStep, setupMessageAt, setupOf}
 use Rattle.model.specs.Chunk.{Chunk, readChunk, chunkMet, chunkStep, allowedOnce, chunkList}
 use Rattle.model.specs.Seek.{Entry, Entry.start, Entry.stop, Entry.phrase, Entry.order, entryAt, followed, entryMet, entryStep, inOrder, seekOf}
 use Rattle.model.specs.Points.{pointsHold, lettersNamed, lettersHold, orderHolds}
@@ -83,9 +83,9 @@ unfolding walkTo
 low-list number end from step check r s l =
     low-as-told _
     (λ n place e.
-    refused-tells number end step check (λ (at : ℕ). Unit) (λ (m there : ℕ). Read m) (λ at next a before h is q. tt) (λ at h. r)
-    (λ at m there h here is. subst LowStep is (s at))
-    (λ at next m there a before h is q. subst Low q (l before a))
+    refused-tells number end step check (λ (turns at : ℕ). Unit) (λ (m there : ℕ). Read m) (λ turns at next a before h is q. tt) (λ at h. r)
+    (λ turns at m there h here is. subst LowStep is (s at))
+    (λ turns at next m there a before h is q. subst Low q (l before a))
     (suc end) from [] n place tt e)
 
 -- 11, 20 TO 23: BODIES
@@ -101,10 +101,10 @@ unfolding itemStep
 item-low voice s at = met-low at (length s) (itemAt voice s at) (item-ahead voice s at)
 
 body-low : (voice : Voice) (s : List ℕ) → Low (bodyOf voice s)
-unfolding bodyOf markIsLast
+unfolding bodyOf
 body-low voice s =
     low-test _ 11 0 _ (inl (omega arith))
-    (low-list 11 (length s) 0 (itemStep voice s) (markIsLast (length s)) (inl (omega arith)) (item-low voice s) (λ before one. low-test _ 11 _ passed (inl (omega arith)) tt))
+    (low-list 11 (length s) 0 (itemStep voice s) _ (inl (omega arith)) (item-low voice s) (λ before one. tt))
 
 -- 10: SETUPS
 

@@ -1,15 +1,22 @@
-// The borders of a phrase track's sections, each with its letter: where the order list is played, by the proved span of each letter.
+// The borders of a phrase track's sections, each with its letter: where the order list is played, by the proved span of each letter
+// that is heard; and the end marks there.
 ghost use mathlib.Core.Path.{_≡_};
 ghost use mathlib.Core.Bool.{true};
 ghost use Prim.Native.Nat.{_≤_};
 ghost use lib.ListN.{length};
 ghost use Rattle.playing.specs.Performing.{entriesSaid, Inside, Named, Ready};
+use super::endings::draw_passed;
+use super::endings::draw_stop;
+use super::endings::draw_stream;
 use super::frame::later;
+use super::marks::count_whole;
+use super::marks::marked_letters;
 use super::page::Layout;
 use super::page::across;
+use super::page::distance;
+use super::page::draw_upright;
 use super::page::milliseconds;
 use super::page::put_pair;
-use super::page::tenths;
 use model::Bodies;
 use model::Span;
 use model::Voice;
@@ -28,19 +35,32 @@ fn draw_letter(page: &mut [u8], used: usize, x: u64, letter: u8) -> usize {
     put(page, used, b"</text>\n")
 }
 
-fn draw_border(page: &mut [u8], used: usize, layout: Layout, x: u64) -> usize {
-    let used = put(
+// The start of a section, as long as there is room for its border and its letter.
+fn draw_start(
+    page: &mut [u8],
+    used: usize,
+    layout: Layout,
+    left: u64,
+    right: u64,
+    letter: u8,
+) -> usize {
+    if distance(left, right) < 30 {
+        return used;
+    }
+    let used = draw_upright(
         page,
         used,
-        b"<line stroke=\"#6b4f9b\" stroke-width=\"1\" stroke-dasharray=\"4 3\" y1=\"68\"",
+        layout,
+        left,
+        b"stroke=\"#6b4f9b\" stroke-width=\"1\" stroke-dasharray=\"4 3\" y1=\"68\"",
     );
-    let used = put_pair(page, used, b"x1", x);
-    let used = put_pair(page, used, b"x2", x);
-    let used = put_pair(page, used, b"y2", tenths(layout.bottom));
-    put(page, used, b"/>\n")
+    if distance(left, right) < 120 {
+        return used;
+    }
+    draw_letter(page, used, left, letter)
 }
 
-// A section from a time on, as long as there is room for its border and its letter.
+// A section from a time to another, and the mark at its end, if one stands there.
 fn draw_section(
     page: &mut [u8],
     used: usize,
@@ -48,41 +68,58 @@ fn draw_section(
     from: u64,
     to: u64,
     letter: u8,
+    marked: bool,
 ) -> usize {
     let left = across(layout, from);
     let right = across(layout, to);
-    if right <= left {
-        return used;
+    let used = draw_start(page, used, layout, left, right, letter);
+    if marked {
+        return draw_passed(page, used, layout, left, right);
     }
-    if right - left < 30 {
-        return used;
-    }
-    let used = draw_border(page, used, layout, left);
-    if right - left < 120 {
-        return used;
-    }
-    draw_letter(page, used, left, letter)
+    used
 }
 
-fn span_at(spans: [Span; 256], letter: u8) -> Span {
-    spans[letter as usize]
+// How long the section of each letter lasts.
+fn lasts_of(spans: [Span; 256]) -> [u64; 256] {
+    let mut lasts = [0u64; 256];
+    let mut letter: usize = 0;
+    while letter < 256 {
+        let span = spans[letter];
+        lasts[letter] = span.lasts;
+        letter += 1;
+    }
+    lasts
 }
 
+fn lasts_at(lasts: &[u64; 256], letter: u8) -> u64 {
+    lasts[letter as usize]
+}
+
+// Whether the mark at the end of a letter's section is passed: it stands there, and playing does not stop before.
+fn is_passed(marked: &[bool; 256], letter: u8, whole: bool) -> bool {
+    if whole {
+        return marked[letter as usize];
+    }
+    false
+}
+
+// Sections one after the other, so many of them to their ends, with the marks that are passed.
 fn draw_sections(
     page: &mut [u8],
     used: usize,
     layout: Layout,
     base: u64,
-    spans: [Span; 256],
+    lasts: [u64; 256],
+    marked: [bool; 256],
     letters: &[u8],
+    whole: usize,
 ) -> usize {
     let mut now = used;
     let mut before: u64 = 0;
     let mut i: usize = 0;
     while i < letters.len() {
         let letter = letters[i];
-        let span = span_at(spans, letter);
-        let after = later(before, span.lasts);
+        let after = later(before, lasts_at(&lasts, letter));
         now = draw_section(
             page,
             now,
@@ -90,11 +127,51 @@ fn draw_sections(
             milliseconds(before, base),
             milliseconds(after, base),
             letter,
+            is_passed(&marked, letter, i < whole),
         );
         before = after;
         i += 1;
     }
     now
+}
+
+// The sections of the letters that are heard, so many of them to their ends, and the mark where playing stops.
+fn draw_heard(
+    page: &mut [u8],
+    used: usize,
+    layout: Layout,
+    base: u64,
+    voice: Voice,
+    body: &[u8],
+    spans: [Span; 256],
+    letters: &[u8],
+    heard: usize,
+    whole: usize,
+) -> usize
+    requires { ⌜ heard ≤ length (now letters) ⌝ }
+{
+    let lasts = lasts_of(spans);
+    let marked = marked_letters(voice, body, spans);
+    let used = draw_sections(
+        page,
+        used,
+        layout,
+        base,
+        lasts,
+        marked,
+        playing::letters_heard(letters, heard),
+        whole,
+    );
+    if whole == heard {
+        return used;
+    }
+    draw_stop(
+        page,
+        used,
+        layout,
+        (letters.len() - heard) as u64,
+        b"letter",
+    )
 }
 
 fn draw_planned(
@@ -111,8 +188,21 @@ fn draw_planned(
     requires { ⌜ length (now letters) ≤ 65536 ⌝ }
     requires { ⌜ Named (entriesSaid true (now seek)) (now letters) ⌝ }
 {
-    let spans = playing::find_spans(voice, body, seek, letters);
-    draw_sections(page, used, layout, base, spans, letters)
+    let found = playing::find_spans(voice, body, seek, letters);
+    let spans = found.spans;
+    let whole = count_whole(voice, body, seek, letters, found.letters);
+    draw_heard(
+        page,
+        used,
+        layout,
+        base,
+        voice,
+        body,
+        spans,
+        letters,
+        found.letters,
+        whole,
+    )
 }
 
 fn draw_phrases(
@@ -161,5 +251,5 @@ pub fn draw_borders(
     if bodies.phrases {
         return draw_phrases(page, used, layout, base, voice, body, seek);
     }
-    used
+    draw_stream(page, used, layout, voice, body, seek)
 }

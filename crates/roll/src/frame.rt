@@ -7,6 +7,7 @@ use super::page::TOP;
 use super::page::across;
 use super::page::below;
 use super::page::depth;
+use super::page::draw_upright;
 use super::page::edge;
 use super::page::is_black;
 use super::page::is_natural_c;
@@ -70,13 +71,6 @@ fn lane_depth(many: u64, depth: u64) -> u64 {
     depth
 }
 
-fn at_least_one(total: u64) -> u64 {
-    if total == 0 {
-        return 1;
-    }
-    total
-}
-
 pub fn layout_of(played: Played, bases: Bases, found: Survey) -> Layout {
     let lowest = lowest_shown(found);
     let rows = rows_shown(found, lowest);
@@ -88,7 +82,7 @@ pub fn layout_of(played: Played, bases: Bases, found: Survey) -> Layout {
         lowest,
         rows,
         row_height,
-        total: at_least_one(milliseconds(played.end, bases.step)),
+        total: milliseconds(played.end, bases.step),
         waves,
         others,
         bottom,
@@ -96,7 +90,7 @@ pub fn layout_of(played: Played, bases: Bases, found: Survey) -> Layout {
     }
 }
 
-fn put_plural(page: &mut [u8], used: usize, many: u64, one: &[u8]) -> usize {
+pub fn put_plural(page: &mut [u8], used: usize, many: u64, one: &[u8]) -> usize {
     let used = put_decimal(page, used, many);
     let used = put_byte(page, used, b' ');
     let used = put(page, used, one);
@@ -315,21 +309,15 @@ fn put_time(page: &mut [u8], used: usize, time: u64) -> usize {
     put(page, used, b" s")
 }
 
-fn draw_grid_line(page: &mut [u8], used: usize, layout: Layout, x: u64) -> usize {
-    let used = put(
-        page,
-        used,
-        b"<line stroke=\"#c9cfda\" stroke-width=\"0.7\" y1=\"90\"",
-    );
-    let used = put_pair(page, used, b"x1", x);
-    let used = put_pair(page, used, b"x2", x);
-    let used = put_pair(page, used, b"y2", tenths(layout.bottom));
-    put(page, used, b"/>\n")
-}
-
 fn draw_second(page: &mut [u8], used: usize, layout: Layout, time: u64) -> usize {
     let x = across(layout, time);
-    let used = draw_grid_line(page, used, layout, x);
+    let used = draw_upright(
+        page,
+        used,
+        layout,
+        x,
+        b"stroke=\"#c9cfda\" stroke-width=\"0.7\" y1=\"90\"",
+    );
     let used = put(
         page,
         used,

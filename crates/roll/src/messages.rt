@@ -90,7 +90,7 @@ fn most(one: u64, other: u64) -> u64 {
 }
 
 // One more, up to a number that no track reaches.
-fn more(count: u64) -> u64 {
+pub fn more(count: u64) -> u64 {
     if 1_000_000 < count {
         return count;
     }

@@ -8,6 +8,7 @@ use super::messages::shifts_after;
 use super::page::Bases;
 use super::page::Layout;
 use super::page::across;
+use super::page::distance;
 use super::page::edge;
 use super::page::milliseconds;
 use super::page::put_colour;
@@ -21,15 +22,11 @@ use text::put_decimal;
 
 // How wide what lasts from a time to another is, in tenths of a pixel: a pixel and a half at least.
 fn width(layout: Layout, from: u64, to: u64) -> u64 {
-    let left = across(layout, from);
-    let right = across(layout, to);
-    if right <= left {
+    let wide = distance(across(layout, from), across(layout, to));
+    if wide < 15 {
         return 15;
     }
-    if right - left < 15 {
-        return 15;
-    }
-    right - left
+    wide
 }
 
 // What is told of a message where the mouse rests on it: its channel and its time.

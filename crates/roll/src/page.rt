@@ -62,6 +62,9 @@ fn times(steps: u64, base: u64) -> u64 {
 // How far from the left a time stands, in tenths of a pixel.
 pub fn across(layout: Layout, time: u64) -> u64 {
     let total = layout.total;
+    if total == 0 {
+        return 700;
+    }
     if 1_000_000_000_000_000 < total {
         return 700;
     }
@@ -73,6 +76,14 @@ pub fn across(layout: Layout, time: u64) -> u64 {
         return 11700;
     }
     700 + part
+}
+
+// How far it is from a place to one on its right.
+pub fn distance(left: u64, right: u64) -> u64 {
+    if right <= left {
+        return 0;
+    }
+    right - left
 }
 
 // How deep so many rows are, in pixels.
@@ -148,6 +159,16 @@ pub fn put_pair(page: &mut [u8], used: usize, name: &[u8], tenths: u64) -> usize
     let used = put(page, used, b"=\"");
     let used = put_tenths(page, used, tenths);
     put_byte(page, used, b'"')
+}
+
+// An upright line of a style, which says where it begins, down to where the lanes end.
+pub fn draw_upright(page: &mut [u8], used: usize, layout: Layout, x: u64, style: &[u8]) -> usize {
+    let used = put(page, used, b"<line ");
+    let used = put(page, used, style);
+    let used = put_pair(page, used, b"x1", x);
+    let used = put_pair(page, used, b"x2", x);
+    let used = put_pair(page, used, b"y2", tenths(layout.bottom));
+    put(page, used, b"/>\n")
 }
 
 // The colour of a channel.

@@ -50,11 +50,7 @@ fn put_reason(page: &mut [u8], used: usize, number: u32) -> usize {
         return put(page, used, b"a setup is damaged");
     }
     if number == 11 {
-        return put(
-            page,
-            used,
-            b"a sequence is empty, or goes on after its end mark",
-        );
+        return put(page, used, b"a sequence is empty");
     }
     if number <= 14 {
         return put(page, used, b"points, phrases or the order list are damaged");

@@ -22,14 +22,15 @@ use Rattle.model.proofs.Walks.{stand-first, stand-never-stuck, stand-over}
 use Rattle.items.proofs.Ahead.{item-goes}
 use Rattle.items.proofs.Addresses.{stands-ahead, timed-met, mark-met, refused-stuck, reads-to-items}
 use Rattle.items.proofs.Standing.{body-stands}
-use Rattle.sections.specs.Spans.{Items, messagesAfter, since, itemsFrom, spanOf, counted, spanRows, Begun, Playable}
+use Rattle.sections.specs.Spans.{Items, messagesAfter, Rest, since, placeOf, itemsFrom, itemsThrough, spanOf, counted, spanRows, Begun, Playable}
+use Rattle.sections.proofs.Cutting.{from-through, since-through}
 use Rattle.sections.proofs.Places.{Standing, stands-within, first-stands, from-since, item-short, past-small}
 
 -- the rows of the next so many messages, after a time that is past
 abbrev pub next-rows : ℕ → ℕ → ℕ → ℕ → Items → List (At Event)
 next-rows before start count time items = map (counted before start) (take count (messagesAfter time items))
 
-none-left : (before start count time : ℕ) → next-rows before start count time [] ≡ []
+pub none-left : (before start count time : ℕ) → next-rows before start count time [] ≡ []
 unfolding onsetsAfter messagesOf
 none-left before start zero time = refl
 none-left before start (suc count) time = refl
@@ -85,7 +86,6 @@ pub record Ahead (voice : Voice) (s : List ℕ) (start place time : ℕ) : Type 
   pub stands : Standing voice s place rest
   pub short : time ≤ 16511 * place
   pub late : NotBefore start time rest
-  pub lasts : time + lasting rest ≡ lasting (itemsOf voice s)
 
 -- a span that some section gives begins where that section does
 pub playable-begins : (items : Items) (size : ℕ) (span : Span) → Playable items size span → Begun items size span
@@ -106,6 +106,7 @@ module _ (voice : Voice) (s : List ℕ) (bytes : (k : ℕ) → s ! k < 256) (sma
   -- all of a span is ahead
   pub span-begins : (a : Ahead voice s (span .start) (span .first) (span .past))
       × ((before : ℕ) → next-rows before (span .start) (span .messages) (span .past) (a .rest) ≡ spanRows (itemsOf voice s) span before)
+      × (a .rest ≡ since (span .start) 0 (itemsOf voice s) .items)
   unfolding spanRows
   span-begins =
       let from : itemsFrom (span .first) all ≡ left = ap (λ (n : ℕ). itemsFrom n all) (begun .first) ∙ from-since voice s (span .start) 0 0 all stand in (
@@ -116,9 +117,24 @@ module _ (voice : Voice) (s : List ℕ) (bytes : (k : ℕ) → s ! k < 256) (sma
           stands = subst (λ (n : ℕ). Standing voice s n left) (sym (begun .first)) (first-stands voice s (span .start) 0 0 all stand);
           short = rw (begun .first, begun .past) (past-small voice s bytes small (span .start) 0 0 all stand (omega arith));
           late = subst (λ (n : ℕ). NotBefore (span .start) n left) (sym (begun .past)) (since-not-before (span .start) 0 all);
-          lasts = ap (λ (n : ℕ). n + lasting left) (begun .past) ∙ since-lasts (span .start) 0 all ∙ zero-add (lasting all);
         },
         λ before. rw from refl,
+        refl,
+      )
+
+  -- and so it is of what an end mark leaves of it
+  pub span-cut : (marks : ℕ) → span .first ≤ marks
+      → (itemsThrough marks left ≡ itemsFrom (span .first) (itemsThrough marks (itemsOf voice s)))
+      × (span .past + lasting (itemsThrough marks left) ≡ lasting (itemsThrough marks (itemsOf voice s)))
+  span-cut marks early =
+      let from : itemsFrom (span .first) all ≡ left = ap (λ (n : ℕ). itemsFrom n all) (begun .first) ∙ from-since voice s (span .start) 0 0 all stand in
+      let there : placeOf (length s) left ≤ marks = subst (λ (n : ℕ). n ≤ marks) (begun .first) early in
+      let cut = since-through voice s marks (span .start) 0 0 all stand there in (
+        ap (itemsThrough marks) (sym from) ∙ from-through (span .first) marks all early,
+        ap (λ (n : ℕ). n + lasting (itemsThrough marks left)) (begun .past)
+            ∙ ap (λ (x : Rest). x .past + lasting (x .items)) (sym cut)
+            ∙ since-lasts (span .start) 0 (itemsThrough marks all)
+            ∙ zero-add (lasting (itemsThrough marks all)),
       )
 
 module _ (voice : Voice) (s : List ℕ) (start place time : ℕ) (a : Ahead voice s start place time) where
@@ -129,15 +145,11 @@ module _ (voice : Voice) (s : List ℕ) (start place time : ℕ) (a : Ahead voic
   in-place = omega (arith, a .small, stands-within voice s place (a .rest) (a .stands))
 
   -- nothing is ahead at the end
-  rests-none : length s ≤ place → a .rest ≡ []
-  rests-none past = stand-over (length s) (itemStep voice s) place (a .rest) (a .stands) (item-goes voice s place) past
+  pub nothing-ahead : length s ≤ place → a .rest ≡ []
+  nothing-ahead past = stand-over (length s) (itemStep voice s) place (a .rest) (a .stands) (item-goes voice s place) past
 
   pub none-ahead : (before count : ℕ) → length s ≤ place → next-rows before start count time (a .rest) ≡ []
-  none-ahead before count past = ap (next-rows before start count time) (rests-none past) ∙ none-left before start count time
-
-  pub all-past : length s ≤ place → time ≡ lasting (itemsOf voice s)
-  unfolding lasting sum
-  all-past past = sym (add-zero time) ∙ ap (λ (items : Items). time + lasting items) (sym (rests-none past)) ∙ a .lasts
+  none-ahead before count past = ap (next-rows before start count time) (nothing-ahead past) ∙ none-left before start count time
 
   -- so much is ahead after one item
   abbrev pub Onward : Item Event → ℕ → ℕ → Type 0
@@ -155,7 +167,6 @@ module _ (voice : Voice) (s : List ℕ) (start place time : ℕ) (a : Ahead voic
     not-before = subst (NotBefore start time) (opened .1) (a .late)
 
     onward : (later : ℕ) → time + durationOf what ≡ later → Onward what next later
-    unfolding lasting sum
     onward later on =
         let items = opened .0 in (
           record {
@@ -165,11 +176,6 @@ module _ (voice : Voice) (s : List ℕ) (start place time : ℕ) (a : Ahead voic
             stands = opened .2;
             short = omega (arith, a .short, nears, item-short voice s (a .bytes) (a .small) place _ next e);
             late = later-not-before start later items (omega (arith, not-before));
-            lasts =
-                ap (λ (n : ℕ). n + lasting items) (sym on)
-                ∙ add-assoc time (durationOf what) (lasting items)
-                ∙ ap (λ (l : Items). time + lasting l) (sym (opened .1))
-                ∙ a .lasts;
           },
           opened .1,
         )

@@ -3,7 +3,9 @@ pub mod Words
 pub mod InWords
 pub mod Places
 pub mod Taking
+pub mod Marks
 pub mod Stretches
+pub mod Cutting
 pub mod Ahead
 pub mod Rowing
 pub mod Walking

@@ -22,7 +22,7 @@ use Rattle.model.specs.declared.ReadItem.{ReadItem}
 use Rattle.model.specs.declared.ReadItem.the-variants.{Timed, EndMark, Refused}
 use Rattle.model.proofs.Tests.{if-all}
 use Rattle.items.proofs.Passing.{sounds-here}
-use Rattle.sections.specs.Taking.{AllBytes, takenAs, EventAgrees, ItemAgrees}
+use Rattle.sections.specs.Taking.{AllBytes, takenAs, takenMark, EventAgrees, ItemAgrees}
 use Rattle.sections.specs.declared.Taken.{Taken}
 use Rattle.sections.proofs.InWords.{DurationShort, duration-short, gate-short, ItemInWord, item-in-word}
 
@@ -89,7 +89,7 @@ module _ (voice : Voice) (s : List ℕ) (at : ℕ) (i : ReadItem) (is : i ≡ it
     unfolding ItemAgrees
     read-timed duration next word what e w h = subst (ItemAgrees r) (sym e ∙ is) (h ∙ ap (takenAs next duration) w)
 
-    pub read-mark : (next : ℕ) → i ≡ EndMark next → r ≡ takenAs next 0 0 → ItemAgrees r (itemAt voice s at)
+    pub read-mark : (next : ℕ) → i ≡ EndMark next → r ≡ takenMark next 0 → ItemAgrees r (itemAt voice s at)
     unfolding ItemAgrees
     read-mark next e h = subst (ItemAgrees r) (sym e ∙ is) h
 

@@ -1,15 +1,15 @@
 -- What holds of every event of a body holds of every message that is played of it, whatever the sections; so all that is played has numbers
 -- that its word has the bits for.
 use Prim.Native.Nat.{ℕ, _+_, _<_, _≤_}
-use mathlib.Core.Bool.{true}
+use mathlib.Core.Bool.{Bool, true}
 use mathlib.Core.List.{List, [], _∷_, _++_, map}
 use mathlib.Core.Path.{_≡_, subst}
 use lib.ListN.{length}
 use native.Mathlib.Omega.{arith}
-use Rattle.model.specs.Words.{if_then_else_, keep, Checked.fine, Placed, Step.met}
+use Rattle.model.specs.Words.{if_then_else_, keep, through, Checked.fine, Placed, Step.met}
 use Rattle.model.specs.Bytes.{_!_}
 use Rattle.model.specs.Item.{Item, Item.timed, Item.endMark, itemMet, itemStep, itemAt, durationOf, bodyOf}
-use Rattle.model.specs.Play.{At, onsetsAfter, withMessage, messagesOf, Section, isWithin, sounding, playedFrom}
+use Rattle.model.specs.Play.{At, onsetsAfter, withMessage, messagesOf, Section, isWithin, reaches, itemsWithin, sounding, lastsIn, sectionsPlayed, playedFrom, allPlayed, tuneOf}
 use Rattle.model.specs.Word.{isMessage, InWord}
 use Rattle.model.specs.declared.Voice.{Voice}
 use Rattle.model.specs.declared.Event.{Event}
@@ -17,7 +17,7 @@ use Rattle.model.specs.declared.ReadItem.{ReadItem}
 use Rattle.model.specs.declared.ReadItem.the-variants.{Timed, EndMark, Refused}
 use Rattle.model.proofs.Tests.{by-test, if-all}
 use Rattle.items.proofs.Standing.{body-stands}
-use Rattle.sections.specs.Spans.{Items, onsets, messagesWithin, counted}
+use Rattle.sections.specs.Spans.{Items, messagesWithin, counted}
 use Rattle.sections.proofs.InWords.{ItemInWord, item-in-word}
 use Rattle.sections.proofs.Places.{Standing}
 
@@ -48,23 +48,32 @@ module _ (P : Event → Type 0) where
   of-with onset (timed duration event) messages p s = if-all OfMessages (isMessage event) _ _ (λ t. (t, p, s)) (λ t. s)
   of-with onset endMark messages p s = s
 
-  of-kept : (section : Section) (past : ℕ) (items : Items) → OfItems items
-      → OfMessages (messagesOf isMessage (keep (λ at. isWithin section (at .step)) (onsets past items)))
-  unfolding keep onsetsAfter messagesOf if_then_else_
-  of-kept section past [] all = tt
-  of-kept section past (item ∷ items) all =
+  of-kept : (test cut : At (Placed (Item Event)) → Bool) (past : ℕ) (items : Items) → OfItems items
+      → OfMessages (messagesOf isMessage (keep test (through cut (onsetsAfter past items))))
+  unfolding keep through onsetsAfter messagesOf if_then_else_
+  of-kept test cut past [] all = tt
+  of-kept test cut past (item ∷ items) all =
       let onset = past + durationOf (item .what) in
-      let later = of-kept section onset items (all .1) in
-      by-test (isWithin section onset) (λ t. simp t (of-with onset (item .what) _ (all .0) later)) (λ t. simp t later)
+      let at : At (Placed (Item Event)) = record { step = onset; event = item } in
+      let later = of-kept test cut onset items (all .1) in
+      by-test (cut at)
+      (λ c. by-test (test at) (λ t. simp (c, t) (of-with onset (item .what) [] (all .0) tt)) (λ t. simp (c, t) tt))
+      (λ c. by-test (test at) (λ t. simp (c, t) (of-with onset (item .what) _ (all .0) later)) (λ t. simp (c, t) later))
 
-  pub of-played : (items : Items) → OfItems items → (before : ℕ) (sections : List Section)
-      → OfMessages (playedFrom isMessage (onsets 0 items) before sections)
-  unfolding playedFrom sounding
+  of-played : (items : Items) → OfItems items → (before : ℕ) (sections : List Section)
+      → OfMessages (playedFrom isMessage (onsetsAfter 0 items) before sections)
+  unfolding playedFrom sounding itemsWithin
   of-played items all before [] = tt
   of-played items all before (section ∷ sections) =
-      let here = of-counted before (section .from) (messagesWithin section items) (of-kept section 0 items all) in
-      of-append (sounding isMessage (onsets 0 items) before section) (playedFrom isMessage (onsets 0 items) (before + section .lasts) sections) here
-      (of-played items all (before + section .lasts) sections)
+      let later = before + lastsIn (onsetsAfter 0 items) section in
+      let heard = of-kept (λ at. isWithin section (at .step)) (reaches section) 0 items all in
+      let here = of-counted before (section .from) (messagesWithin section items) heard in
+      of-append (sounding isMessage (onsetsAfter 0 items) before section) (playedFrom isMessage (onsetsAfter 0 items) later sections) here
+      (of-played items all later sections)
+
+  pub of-tune : (items : Items) → OfItems items → (sections : List Section) → OfMessages (tuneOf isMessage items sections .messages)
+  unfolding tuneOf allPlayed
+  of-tune items all sections = of-played items all 0 (sectionsPlayed (onsetsAfter 0 items) sections)
 
 -- WORDS have the bits for the events of a body of bytes
 module _ (voice : Voice) (s : List ℕ) (bytes : (k : ℕ) → s ! k < 256) (small : length s ≤ 65536) where

@@ -2,24 +2,25 @@
 -- it is what the definition says.
 use Prim.Native.Nat.{ℕ, _+_, _<_, _≤_}
 use mathlib.Core.Bool.{true}
-use mathlib.Core.List.{List, [], _∷_}
+use mathlib.Core.List.{List, [], _∷_, _++_, append-assoc}
 use mathlib.Core.Path.{_≡_, refl, sym, _∙_, ap}
 use lib.ListN.{length}
 use native.Mathlib.Nat.{add-zero, zero-add, add-assoc}
 use native.Mathlib.Omega.{arith}
-use borrow.Author.Tests.{lt-ltb, le-ltb, eqb-true, eqb-false}
+use borrow.Author.Tests.{lt-ltb, le-ltb, ltb-true, eqb-true, eqb-false}
 use Rattle.model.specs.Words.{if_then_else_, _<?_, _≡?_, keep, sum, Placed}
 use Rattle.model.specs.Item.{Item, durationOf, lasting, bodyOf, isFine, itemsOf}
-use Rattle.model.specs.Play.{At, onsetsAfter, withMessage, messagesOf, isBelow}
+use Rattle.model.specs.Play.{At, Onsets, onsetsAfter, withMessage, messagesOf, isBelow}
 use Rattle.model.specs.Points.{isAddress, timeOf}
 use Rattle.model.specs.Word.{isMessage}
 use Rattle.model.specs.declared.Voice.{Voice}
 use Rattle.model.specs.declared.Event.{Event}
 use Rattle.model.specs.declared.Reached.{Reached}
 use Rattle.model.proofs.Tests.{by-test}
+use Rattle.model.proofs.Picking.{keep-append}
 use Rattle.items.proofs.Addresses.{isThere, timeIn, placed-at, stands-ahead, passed-by, timed-by, reads-to-items}
 use Rattle.items.proofs.Standing.{body-stands}
-use Rattle.sections.specs.Spans.{Items, onsets, messagesAfter, Rest, since, placeOf}
+use Rattle.sections.specs.Spans.{Items, messagesAfter, Rest, since, placeOf}
 use Rattle.sections.specs.Reaching.{messagesTo, itemsTo, reachedOf, atHead, passedBy}
 use Rattle.sections.proofs.Places.{Standing, place-stands}
 use Rattle.sections.proofs.Stretches.{none-kept}
@@ -36,6 +37,8 @@ pub record Walking (voice : Voice) (s : List ℕ) (r : Reached) (rest : Items) :
   pub first : placeOf (length s) (since (r .time) 0 (itemsOf voice s) .items) ≡ r .first
   pub past : since (r .time) 0 (itemsOf voice s) .past ≡ r .past
   pub passed : messagesTo (r .time) 0 (itemsOf voice s) ≡ r .passed
+  pub begun : r .first ≤ r .at
+  pub split : itemsOf voice s ≡ itemsTo (r .at) (itemsOf voice s) ++ rest
 
 -- at time 0 all is still to come
 since-all : (past : ℕ) (items : Items) → since 0 past items ≡ record { past = past; items = items }
@@ -45,7 +48,7 @@ since-all past (item ∷ items) = let late : 0 ≤ past + durationOf (item .what
 
 none-early : (past : ℕ) (items : Items) → messagesTo 0 past items ≡ 0
 unfolding isBelow messagesOf
-none-early past items = ap (λ (l : List (At (Item Event))). length (messagesOf isMessage l)) (none-kept 0 past items (omega arith))
+none-early past items = ap (λ (l : Onsets Event). length (messagesOf isMessage l)) (none-kept 0 past items (omega arith))
 
 -- items from a place on have places from there on
 none-to : (voice : Voice) (s : List ℕ) (address at : ℕ) (items : Items) → Standing voice s at items → address ≤ at → itemsTo address items ≡ []
@@ -55,6 +58,24 @@ none-to voice s address at (item ∷ items) st h =
     let a = stands-ahead voice s at item (st .0) (st .1) in
     let late : address ≤ item .place = omega (arith, placed-at voice s at item (st .0) (st .1)) in
     simp le-ltb (none-to voice s address (st .0) items (st .2) (omega arith))
+
+-- items before an address are before a later one
+to-later : (address later : ℕ) (items : Items) → address ≤ later → itemsTo later (itemsTo address items) ≡ itemsTo address items
+unfolding keep if_then_else_
+to-later address later [] h = refl
+to-later address later (item ∷ items) h =
+    by-test (item .place <? address)
+    (λ t.
+    let before : item .place < later = omega (arith, ltb-true (item .place) address t) in
+    simp (t, lt-ltb) (ap (λ (rest : Items). item ∷ rest) (to-later address later items h)))
+    (λ t. simp t (to-later address later items h))
+
+-- up to a later address
+pub split-later : (at address : ℕ) (all rest : Items) → at ≤ address → all ≡ itemsTo at all ++ rest → itemsTo address all ≡ itemsTo at all ++ itemsTo address rest
+split-later at address all rest h split =
+    ap (itemsTo address) split
+    ∙ keep-append (λ item. item .place <? address) (itemsTo at all) rest
+    ∙ ap (λ (front : Items). front ++ itemsTo address rest) (to-later at address all h)
 
 module _ (voice : Voice) (s : List ℕ) where
   abbrev all : Items
@@ -76,6 +97,8 @@ module _ (voice : Voice) (s : List ℕ) where
         first = ap (λ (l : Rest). placeOf (length s) (l .items)) (since-all 0 all) ∙ place-stands voice s 0 all st;
         past = ap (λ (l : Rest). l .past) (since-all 0 all);
         passed = none-early 0 all;
+        begun = omega arith;
+        split = sym (ap (λ (front : Items). front ++ all) (none-to voice s 0 0 all st (omega arith)));
       }
 
   -- what is reached is what the definition says
@@ -137,16 +160,29 @@ module _ (voice : Voice) (s : List ℕ) where
     unfolding keep onsetsAfter messagesOf if_then_else_
     earlies-next time h =
         let early : r .time + durationOf (item .what) < time = omega (arith, takes) in
-        let l = messagesOf isMessage (keep (λ at. at .step <? time) (onsets (r .time + durationOf (item .what)) rest)) in
+        let l = messagesOf isMessage (keep (λ at. at .step <? time) (onsetsAfter (r .time + durationOf (item .what)) rest)) in
         let step : messagesTo time (r .time) (item ∷ rest) ≡ length (withMessage isMessage (r .time + durationOf (item .what)) (item .what) l) = simp lt-ltb in
         w .earlies time (omega arith)
         ∙ ap (λ (n : ℕ). r .messages + n) (step ∙ says (r .time + durationOf (item .what)) l ∙ ap (λ (d : ℕ). heard + messagesTo time (r .time + d) rest) takes)
         ∙ sym (add-assoc (r .messages) heard _)
 
-    moved : (time first past passed : ℕ) → r .time + duration ≡ time
+    -- the items before the next place are those before this one, and this
+    pub behind-next : itemsTo next all ≡ itemsTo (r .at) all ++ (item ∷ [])
+    unfolding keep if_then_else_
+    behind-next =
+        let before : item .place < next = omega (arith, here, ahead) in
+        let one : itemsTo next (item ∷ rest) ≡ item ∷ [] =
+        simp lt-ltb (ap (λ (l : Items). item ∷ l) (none-to voice s next next rest (w .stands .2) (omega arith))) in
+        split-later (r .at) next all (item ∷ rest) (omega (arith, ahead)) (w .split) ∙ ap (λ (l : Items). itemsTo (r .at) all ++ l) one
+
+    split-next : all ≡ itemsTo next all ++ rest
+    split-next =
+        w .split ∙ sym (append-assoc (itemsTo (r .at) all) (item ∷ []) rest) ∙ ap (λ (front : Items). front ++ rest) (sym behind-next)
+
+    moved : (time first past passed : ℕ) → r .time + duration ≡ time → first ≤ r .at
         → placeOf (length s) (since time 0 all .items) ≡ first → since time 0 all .past ≡ past → messagesTo time 0 all ≡ passed
         → Walking voice s (record { at = next; time = time; messages = r .messages + heard; first = first; past = past; passed = passed }) rest
-    moved time first past passed e f p m =
+    moved time first past passed e b f p m =
         record {
           stands = w .stands .2;
           few = omega (arith, w .few, ahead);
@@ -158,6 +194,8 @@ module _ (voice : Voice) (s : List ℕ) where
           first = f;
           past = p;
           passed = m;
+          begun = omega (arith, ahead);
+          split = split-next;
         }
 
     -- an item that takes time begins what is not before its onset
@@ -179,10 +217,10 @@ module _ (voice : Voice) (s : List ℕ) where
     unfolding passedBy placeOf if_then_else_
     walking-on =
         by-test (duration ≡? 0)
-        (λ t. let z = eqb-true duration 0 t in simp t (moved (r .time) (r .first) (r .past) (r .passed) (omega arith) (w .first) (w .past) (w .passed)))
+        (λ t. let z = eqb-true duration 0 t in simp t (moved (r .time) (r .first) (r .past) (r .passed) (omega arith) (w .begun) (w .first) (w .past) (w .passed)))
         (λ t.
         let long = eqb-false duration 0 t in
         let l = since-here long in
         simp t
-        (moved (r .time + duration) (r .at) (r .time) (r .messages) refl
+        (moved (r .time + duration) (r .at) (r .time) (r .messages) refl (omega arith)
         (ap (λ (x : Rest). placeOf (length s) (x .items)) l ∙ here) (ap (λ (x : Rest). x .past) l) (early-here long)))

@@ -1,19 +1,20 @@
--- A body walked up to an address.
+-- A body walked up to an address, or through the first end mark from a place on.
 use Prim.Native.Nat.{ℕ, _+_, _-_, _*_, _≤_}
-use mathlib.Core.Bool.{true}
+use mathlib.Core.Bool.{true, false}
 use mathlib.Core.Path.{_≡_}
 use lib.ListN.{length}
-use Rattle.model.specs.Words.{if_then_else_, _<?_, _≡?_, keep}
-use Rattle.model.specs.Play.{messagesOf}
+use Rattle.model.specs.Words.{if_then_else_, _<?_, _≡?_, any, keep}
+use Rattle.model.specs.Play.{onsetsAfter, messagesOf}
 use Rattle.model.specs.Points.{isAddress, timeOf}
 use Rattle.model.specs.Word.{isMessage}
 use Rattle.model.specs.declared.Reached.{Reached}
 use Rattle.model.specs.declared.Span.{Span}
-use Rattle.sections.specs.Spans.{Items, onsets, messagesAfter, since, placeOf}
+use Rattle.model.specs.declared.Passage.{Passage}
+use Rattle.sections.specs.Spans.{Items, messagesAfter, since, placeOf, markFrom, itemsThrough}
 
 -- how many messages have an onset before a time, after a time that is past
 abbrev pub messagesTo : ℕ → ℕ → Items → ℕ
-messagesTo time past items = length (messagesOf isMessage (keep (λ at. at .step <? time) (onsets past items)))
+messagesTo time past items = length (messagesOf isMessage (keep (λ at. at .step <? time) (onsetsAfter past items)))
 
 -- the items that start before an address
 abbrev pub itemsTo : ℕ → Items → Items
@@ -44,6 +45,16 @@ spanOn reached messages lasts =
 unfoldable pub spanTo : Reached → ℕ → ℕ → Span
 spanTo reached messages time = spanOn reached (messages - reached .passed) (time - reached .time)
 
+-- the passage from what is reached on: up to where a walk went, if that is before the time of the stop, and else up to the stop
+unfoldable pub passageTo : Reached → Reached → Reached → Passage
+passageTo from went to =
+    if went .time <? to .time then record { span = spanTo from (went .messages) (went .time); stops = true } else
+    record { span = spanTo from (to .passed) (to .time); stops = false }
+
+-- how many messages an item is, by its word
+unfoldable pub heardBy : ℕ → ℕ
+heardBy word = if word ≡? 0 then 0 else 1
+
 -- One item further: a duration, so many messages, and the place after it. An item that takes time is the first that is not before its
 -- own onset.
 unfoldable pub passedBy : Reached → ℕ → ℕ → ℕ → Reached
@@ -69,3 +80,10 @@ pub record Walked (items : Items) (size : ℕ) (reached : Reached) : Type 0 wher
   pub is : reached ≡ reachedOf items size (reached .at)
   pub address : isAddress items size (reached .at) ≡ true
   pub small : reached .time ≤ 4294967296 * reached .at
+
+-- Where a walk to an address ends that goes no further than through the first end mark from a place on.
+pub record Arrived (items : Items) (size marks address : ℕ) (reached : Reached) : Type 0 where
+  pub walked : Walked items size reached
+  pub near : reached .at ≤ address
+  pub behind : itemsTo (reached .at) items ≡ itemsThrough marks (itemsTo address items)
+  pub whole : any (markFrom marks) (itemsTo address items) ≡ false → reached .at ≡ address

@@ -1,35 +1,32 @@
 -- A section as a stretch of a body: onsets never fall, so what is not before a section is all that stands from some item on, and what it
 -- plays is the first so many messages of that.
 use Prim.Native.Nat.{ℕ, _+_, _-_, _*_, _<_, _≤_}
+use mathlib.Core.Bool.{Bool}
 use mathlib.Core.List.{List, [], _∷_, map}
 use mathlib.Core.Option.{none}
 use mathlib.Core.Path.{_≡_}
 use lib.ListN.{length, take}
-use Rattle.model.specs.Words.{if_then_else_, _<?_, _≤?_, keep, Placed}
+use Rattle.model.specs.Words.{if_then_else_, _and_, _<?_, _≤?_, keep, through, Placed}
 use Rattle.model.specs.Duration.{longestDuration}
-use Rattle.model.specs.Item.{Item, durationOf, lasting}
-use Rattle.model.specs.Play.{At, onsetsAfter, messagesOf, Section, isWithin}
-use Rattle.model.specs.Points.{timeOf}
+use Rattle.model.specs.Item.{Item, durationOf, isMark, lasting}
+use Rattle.model.specs.Play.{At, onsetsAfter, messagesOf, Section, itemsWithin, lastsIn, stopsIn}
 use Rattle.model.specs.Order.{between, streamSection}
 use Rattle.model.specs.Word.{isMessage, wordOf}
 use Rattle.model.specs.declared.Event.{Event}
 use Rattle.model.specs.declared.Span.{Span}
+use Rattle.model.specs.declared.Passage.{Passage}
 use Rattle.sections.specs.declared.Written.{Written}
 
 abbrev pub Items : Type 0
 Items = List (Placed (Item Event))
 
--- the items of a list at their onsets, after a time that is past
-abbrev pub onsets : ℕ → Items → List (At (Item Event))
-onsets past items = onsetsAfter past (map (λ item. item .what) items)
-
 -- the messages of a list of items at their onsets
 abbrev pub messagesAfter : ℕ → Items → List (At Event)
-messagesAfter past items = messagesOf isMessage (onsets past items)
+messagesAfter past items = messagesOf isMessage (onsetsAfter past items)
 
 -- the messages that a section plays, at their onsets
 abbrev pub messagesWithin : Section → Items → List (At Event)
-messagesWithin section items = messagesOf isMessage (keep (λ at. isWithin section (at .step)) (onsets 0 items))
+messagesWithin section items = messagesOf isMessage (itemsWithin section (onsetsAfter 0 items))
 
 -- Items, and the time that is past before them.
 pub record Rest : Type 0 where
@@ -56,15 +53,26 @@ spanOf items size section =
       past = since (section .from) 0 items .past;
       start = section .from;
       messages = length (messagesWithin section items);
-      lasts = section .lasts;
+      lasts = lastsIn (onsetsAfter 0 items) section;
     }
 
--- the sections of a track, as spans: between two addresses, and from an address on with no bound
-abbrev pub spanBetween : Items → ℕ → ℕ → ℕ → Span
-spanBetween items size start stop = spanOf items size (between (timeOf items start) (timeOf items stop))
+unfoldable pub passageOf : Items → ℕ → Section → Passage
+passageOf items size section = record { span = spanOf items size section; stops = stopsIn (onsetsAfter 0 items) section }
+
+-- the sections of a track: between two addresses, and from an address on with no bound
+abbrev pub passageBetween : Items → ℕ → ℕ → ℕ → Passage
+passageBetween items size start stop = passageOf items size (between items start stop)
 
 abbrev pub spanFrom : Items → ℕ → ℕ → Span
 spanFrom items size start = spanOf items size (streamSection items start none)
+
+-- an end mark that stands from a place on
+unfoldable pub markFrom : ℕ → Placed (Item Event) → Bool
+markFrom place item = isMark (item .what) and (place ≤? item .place)
+
+-- the items up to and with the first such mark
+abbrev pub itemsThrough : ℕ → Items → Items
+itemsThrough place items = through (markFrom place) items
 
 -- the items that stand from a place on
 unfoldable pub itemsFrom : ℕ → Items → Items

@@ -1,6 +1,7 @@
--- An item as plain numbers: the place after it, its duration, and its word, 0 where it is no message. They agree with what is read at its
--- place; where that is refused nothing is said of them.
+-- An item as plain numbers: the place after it, its duration, its word, 0 where it is no message, and whether it is an end mark. They agree
+-- with what is read at its place; where that is refused nothing is said of them.
 use Prim.Native.Nat.{ℕ, _<_}
+use mathlib.Core.Bool.{true, false}
 use mathlib.Core.List.{List}
 use mathlib.Core.Path.{_≡_}
 use Rattle.model.specs.Bytes.{_!_}
@@ -16,7 +17,10 @@ abbrev pub AllBytes : List ℕ → Type 0
 AllBytes s = (k : ℕ) → s ! k < 256
 
 abbrev pub takenAs : ℕ → ℕ → ℕ → Taken
-takenAs next duration word = record { next = next; duration = duration; word = word }
+takenAs next duration word = record { next = next; duration = duration; word = word; mark = false }
+
+abbrev pub takenMark : ℕ → ℕ → Taken
+takenMark next duration = record { next = next; duration = duration; word = 0; mark = true }
 
 unfoldable pub EventAgrees : ℕ → Taken → ReadEvent → Type 0
 EventAgrees duration taken (event.Is what next) = taken ≡ takenAs next duration (wordOf what)
@@ -24,5 +28,5 @@ EventAgrees duration taken (event.Refused number place) = Unit
 
 unfoldable pub ItemAgrees : Taken → ReadItem → Type 0
 ItemAgrees taken (Timed duration what next) = taken ≡ takenAs next duration (wordOf what)
-ItemAgrees taken (EndMark next) = taken ≡ takenAs next 0 0
+ItemAgrees taken (EndMark next) = taken ≡ takenMark next 0
 ItemAgrees taken (Refused number place) = Unit

@@ -31,9 +31,10 @@ pub struct Written {
     pub time: u64,
 }
 
-// An item as plain numbers: the place after it, its duration, and its word, 0 where it is no message.
+// An item as plain numbers: the place after it, its duration, its word, 0 where it is no message, and whether it is an end mark.
 pub struct Taken {
     pub next: usize,
     pub duration: u32,
     pub word: u32,
+    pub mark: bool,
 }

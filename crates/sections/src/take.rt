@@ -6,7 +6,7 @@ ghost use lib.ListN.{length};
 ghost use Rattle.model.specs.Event.{sound, soundAt};
 ghost use Rattle.model.specs.Item.{itemAt};
 ghost use Rattle.model.specs.Word.{wordOf};
-ghost use Rattle.sections.specs.Taking.{AllBytes, takenAs, EventAgrees, ItemAgrees};
+ghost use Rattle.sections.specs.Taking.{AllBytes, takenAs, takenMark, EventAgrees, ItemAgrees};
 use super::Taken;
 use super::word::pack;
 use super::word::word_of;
@@ -23,6 +23,18 @@ fn taken(next: usize, duration: u32, word: u32) -> Taken
         next,
         duration,
         word,
+        mark: false,
+    }
+}
+
+fn taken_mark(next: usize, duration: u32) -> Taken
+    ensures { λ r. ⌜ r ≡ takenMark next duration ⌝ }
+{
+    Taken {
+        next,
+        duration,
+        word: 0,
+        mark: true,
     }
 }
 
@@ -68,7 +80,7 @@ fn take_read(voice: Voice, s: &[u8], at: usize) -> Taken
             event,
             next,
         } => taken(next, duration, word_of(event)),
-        ReadItem::EndMark { next } => taken(next, 0, 0),
+        ReadItem::EndMark { next } => taken_mark(next, 0),
         ReadItem::Refused {
             number: _,
             place: _,

@@ -3,7 +3,6 @@
 use crate::generate::event::exclusive_of;
 use crate::generate::fault::{is_cut, put_fault, voices_of, Cell, Position};
 use crate::generate::file::{setup_messages, FilePlan, TrackPlan};
-use crate::generate::sequence::SequencePlan;
 use crate::random::Random;
 use crate::refusal::Clause;
 
@@ -33,14 +32,7 @@ pub fn damage_sequence(random: &mut Random, plan: &mut FilePlan, clause: Clause)
     let track = plan.track(random, voice, None);
     let (voice, sequence) = (track.voice, &mut track.sequence);
     match clause {
-        Clause::SequenceEmpty => {
-            *sequence = SequencePlan { items: Vec::new(), end_mark: false, tail: Vec::new() };
-        }
-        Clause::BytesAfterEndMark => {
-            let count = random.between(1, 6);
-            sequence.end_mark = true;
-            sequence.tail = if random.percent(50) { vec![0; count] } else { random.bytes(count) };
-        }
+        Clause::SequenceEmpty => sequence.items.clear(),
         _ => {
             let position = match is_cut(clause) {
                 true => Position::Last,

@@ -1,5 +1,6 @@
 //! Faulty items: for each row of the table of faults an item that shows it, in
-//! either voice, as the first, a middle or the last item of a body.
+//! either voice, as the first, a middle or the last item of a body, behind end
+//! marks too.
 
 use crate::case::{Case, Operation};
 use crate::generate::call::call;
@@ -7,7 +8,7 @@ use crate::generate::event::{
     duration, exclusive_of, gate, length_bytes, long_controls, short_byte, sound_byte,
 };
 use crate::generate::file::FilePlan;
-use crate::generate::sequence::SequencePlan;
+use crate::generate::sequence::{mark, SequencePlan};
 use crate::item::Voice;
 use crate::random::Random;
 use crate::refusal::Clause;
@@ -75,7 +76,6 @@ struct Faulty {
 /// Puts an item with the fault into the body and says where the fault is told,
 /// counted from the body's head.
 pub fn put_fault(random: &mut Random, sequence: &mut SequencePlan, cell: Cell) -> usize {
-    sequence.tail.clear();
     let others = match cell.position {
         Position::First => 0,
         Position::Middle => 2,
@@ -94,13 +94,15 @@ pub fn put_fault(random: &mut Random, sequence: &mut SequencePlan, cell: Cell) -
     let Faulty { mut front, bad, rest } = faulty(random, cell);
     let told = before + front.len();
     front.extend(bad);
-    let ends_here = cell.position == Position::Last && (bad.is_none() || random.percent(30));
-    if ends_here {
-        sequence.end_mark = false;
-    } else {
+    let last = cell.position == Position::Last;
+    let ends_here = last && (bad.is_none() || random.percent(30));
+    if !ends_here {
         front.extend(rest);
     }
     sequence.items.insert(place, front);
+    if last && !ends_here && random.percent(50) {
+        sequence.items.push(mark());
+    }
     told
 }
 

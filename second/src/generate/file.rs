@@ -37,10 +37,9 @@ impl TrackPlan {
         phrases: bool,
         sequence: SequencePlan,
     ) -> TrackPlan {
-        let addresses = sequence.addresses();
         let seek = match phrases {
-            true => Some(SeekPlan::phrases(random, &addresses)),
-            false => SeekPlan::stream(random, &addresses),
+            true => Some(SeekPlan::phrases(random, &sequence)),
+            false => SeekPlan::stream(random, &sequence),
         };
         let fixed = fixed_bytes(random, voice, phrases);
         let setup = random.percent(20).then(|| setup_messages(random));

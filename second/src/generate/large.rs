@@ -1,10 +1,11 @@
 //! The rare large files: full ones, ones of many chunks, long lists, and
-//! lists whose plain form or rows come to a given number.
+//! lists whose plain form or rows come to a given number, with end marks that
+//! stop them or none.
 
 use crate::generate::event::{exclusive_of, NOP};
 use crate::generate::file::{FilePlan, Part, TrackPlan};
 use crate::generate::seek::{Entry, SeekPlan};
-use crate::generate::sequence::{item, SequencePlan};
+use crate::generate::sequence::{item, mark, SequencePlan};
 use crate::generate::tree::{Chunk, Draft};
 use crate::item::Voice;
 use crate::numbers::LARGEST;
@@ -18,7 +19,13 @@ pub fn many_chunks(random: &mut Random, rows: usize) -> Draft {
     let leaves = (0..(rows - 1 - inside) as u32)
         .map(|number| Chunk::leaf((0x7000_0000 + number).to_be_bytes(), Vec::new()));
     draft.root.children.splice(place..place, leaves);
-    if random.percent(20) {
+    draft
+}
+
+/// The same, and perhaps one more that has the ID of the first leaf.
+pub fn many_chunks_and_twin(random: &mut Random, rows: usize) -> Draft {
+    let mut draft = many_chunks(random, rows);
+    if random.percent(50) {
         draft.root.children.push(Chunk::leaf(0x7000_0000_u32.to_be_bytes(), Vec::new()));
     }
     draft
@@ -33,7 +40,8 @@ pub fn full_file(random: &mut Random, length: usize) -> Draft {
         messages.extend((0..150).map(|_| exclusive_of(random, 255)));
     } else {
         let count = random.between(2_000, 5_000);
-        let sequence = SequencePlan::of_count(random, track.voice, count);
+        let marks = if random.percent(40) { random.between(1, 3) } else { 0 };
+        let sequence = SequencePlan::marked(random, track.voice, count, marks);
         let (id, voice, phrases) = (track.id, track.voice, track.phrases);
         *track = TrackPlan::of_sequence(random, id, voice, phrases, sequence);
     }
@@ -48,17 +56,79 @@ pub fn full_file(random: &mut Random, length: usize) -> Draft {
     draft
 }
 
-fn phrase_file(random: &mut Random, voice: Voice, items: Vec<Vec<u8>>, seek: SeekPlan) -> Draft {
-    let id = if voice == Voice::Score { *b"MTR0" } else { *b"ATR0" };
-    let sequence = SequencePlan { items, end_mark: random.percent(50), tail: Vec::new() };
-    let mut track = TrackPlan::of_sequence(random, id, voice, true, sequence);
-    track.seek = Some(seek);
-    track.setup = None;
-    FilePlan::of_parts(random, vec![Part::Track(track)]).draft()
+/// A body and the phrases and list over it.
+struct Song {
+    items: Vec<Vec<u8>>,
+    seek: SeekPlan,
+}
+
+impl Song {
+    fn length(&self) -> u32 {
+        self.items.concat().len() as u32
+    }
+
+    /// Puts an end mark after all items and a rest behind it, and into the list
+    /// a letter whose phrase runs from `start` over that mark.
+    fn put_stop(&mut self, start: u32, place: usize) {
+        self.items.extend([mark(), item(1, &NOP)]);
+        self.seek.put(Entry::phrase(b'S', start, self.length()));
+        let mut list = self.seek.list();
+        list.insert(place, b'S');
+        self.seek.put(Entry::new(*b"SL", list));
+    }
+
+    /// Stops the list at its end or not. The phrase of the stop starts at its
+    /// mark, so that it plays nothing and lasts nothing; more letters after it
+    /// are not played.
+    fn stopped_or_not(mut self, random: &mut Random) -> Song {
+        if random.percent(60) {
+            return self;
+        }
+        let list = self.seek.list();
+        self.put_stop(self.length(), list.len());
+        let more: Vec<u8> = (0..random.below(40)).map(|_| random.pick(&list)).collect();
+        self.seek.put(Entry::new(*b"SL", [self.seek.list(), more].concat()));
+        self
+    }
+
+    fn file(mut self, random: &mut Random, voice: Voice) -> Draft {
+        let id = if voice == Voice::Score { *b"MTR0" } else { *b"ATR0" };
+        if random.percent(50) {
+            self.items.push(mark());
+        }
+        let sequence = SequencePlan { items: self.items };
+        let mut track = TrackPlan::of_sequence(random, id, voice, true, sequence);
+        track.seek = Some(self.seek);
+        track.setup = None;
+        FilePlan::of_parts(random, vec![Part::Track(track)]).draft()
+    }
+}
+
+/// The letter of a long list whose phrase reaches an end mark.
+#[derive(Clone, Copy)]
+pub enum Stop {
+    Nowhere,
+    First,
+    Middle,
+    Last,
+}
+
+impl Stop {
+    /// Where the letter goes in a list of that many others; one in the middle is
+    /// often near enough to the first for what plays to be small.
+    fn place(self, random: &mut Random, letters: usize) -> Option<usize> {
+        match self {
+            Stop::Nowhere => None,
+            Stop::First => Some(0),
+            Stop::Middle if random.percent(50) => Some(random.between(1, 60)),
+            Stop::Middle => Some(random.between(1, letters - 1)),
+            Stop::Last => Some(letters),
+        }
+    }
 }
 
 /// Tens of thousands of letters over phrases with few, many or no messages.
-pub fn long_list(random: &mut Random) -> Draft {
+pub fn long_list(random: &mut Random, stop: Stop) -> Draft {
     let count = random.pick(&[1, 3, 50, 1_000, 4_000]);
     let silent = random.percent(40);
     let items: Vec<Vec<u8>> = (0..count)
@@ -67,18 +137,21 @@ pub fn long_list(random: &mut Random) -> Draft {
             false => item(random.pick(&[0, 1, 16_511]), &[0x29, 0x01]),
         })
         .collect();
-    let length = items.concat().len();
-    let mut seek = SeekPlan::default();
-    seek.put(Entry::phrase(b'a', 0, length as u32));
-    seek.put(Entry::phrase(b'R', 0, 0));
-    let room = LARGEST - length - 120;
+    let mut song = Song { items, seek: SeekPlan::default() };
+    let length = song.length();
+    song.seek.put(Entry::phrase(b'a', 0, length));
+    song.seek.put(Entry::phrase(b'R', 0, 0));
+    let room = LARGEST - length as usize - 120;
     let letters = room - random.below(room / 2);
     let list = (0..letters).map(|_| if random.percent(5) { b'R' } else { b'a' }).collect();
-    seek.put(Entry::new(*b"SL", list));
-    if random.percent(30) {
-        seek.put(Entry::new(*b"sp", vec![random.byte()]));
+    song.seek.put(Entry::new(*b"SL", list));
+    if let Some(place) = stop.place(random, letters) {
+        song.put_stop(random.pick(&[0, length]), place);
     }
-    phrase_file(random, Voice::Score, items, seek)
+    if random.percent(30) {
+        song.seek.put(Entry::new(*b"sp", vec![random.byte()]));
+    }
+    song.file(random, Voice::Score)
 }
 
 /// A list of two phrases, each an exclusive and one step of rest; the plain
@@ -103,7 +176,7 @@ pub fn plain_of(random: &mut Random, length: usize) -> Draft {
     list.insert(random.between(0, times), b'E');
     seek.put(Entry::new(*b"SL", list));
     let voice = random.pick(&[Voice::Score, Voice::Pcm]);
-    phrase_file(random, voice, items, seek)
+    Song { items, seek }.stopped_or_not(random).file(random, voice)
 }
 
 /// A list of long rests, 4 bytes each in the plain form, near the most that a
@@ -124,7 +197,7 @@ pub fn rests_of(random: &mut Random) -> Draft {
         list.insert(random.between(0, letters), b'I');
     }
     seek.put(Entry::new(*b"SL", list));
-    phrase_file(random, Voice::Score, items, seek)
+    Song { items, seek }.stopped_or_not(random).file(random, Voice::Score)
 }
 
 /// A list that plays exactly `rows` rows.
@@ -141,5 +214,5 @@ pub fn rows_of(random: &mut Random, rows: usize) -> Draft {
     seek.put(Entry::phrase(b'y', border, end));
     let list = [vec![b'x'; rows / many], vec![b'y'; rows % many]].concat();
     seek.put(Entry::new(*b"SL", list));
-    phrase_file(random, Voice::Score, items, seek)
+    Song { items, seek }.stopped_or_not(random).file(random, Voice::Score)
 }

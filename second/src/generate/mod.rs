@@ -18,6 +18,7 @@ pub mod tree;
 use crate::case::{Case, Operation};
 use crate::generate::damage::{damaged, file_clauses};
 use crate::generate::file::FilePlan;
+use crate::generate::large::Stop;
 use crate::random::Random;
 use crate::refusal::Clause;
 
@@ -58,14 +59,9 @@ pub fn pitch_case(event: u8, shift: u8) -> Case {
 /// The read of an accepted file with that many rows, for which there is just room.
 pub fn read_of_many_chunks(rows: usize) -> Case {
     let mut random = Random::for_index(0, rows as u64);
-    loop {
-        let draft = large::many_chunks(&mut random, rows);
-        let buffer = draft.bytes(&mut random);
-        let stated = buffer.len() as u32;
-        if crate::file::read(&buffer, stated, rows).is_ok() {
-            return Case { operation: Operation::Read, stated, row: 0, room: rows as u32, buffer };
-        }
-    }
+    let buffer = large::many_chunks(&mut random, rows).bytes(&mut random);
+    let stated = buffer.len() as u32;
+    Case { operation: Operation::Read, stated, row: 0, room: rows as u32, buffer }
 }
 
 /// Every event byte with every shift byte.
@@ -79,8 +75,11 @@ pub fn any_file(random: &mut Random, operation: Operation, slot: u64) -> Vec<u8>
     let draft = match slot {
         7 => large::many_chunks(random, 4_096 + above),
         1_757 => large::many_chunks(random, 4_096 - below),
-        2_757 => large::many_chunks(random, 8_000),
-        1_007 => large::long_list(random),
+        2_757 => large::many_chunks_and_twin(random, 8_000),
+        1_007 => large::long_list(random, Stop::Nowhere),
+        757 => large::long_list(random, Stop::First),
+        2_507 => large::long_list(random, Stop::Middle),
+        3_757 => large::long_list(random, Stop::Last),
         2_007 => large::full_file(random, 65_536),
         1_257 | 3_007 => large::full_file(random, 65_536 + 1_000 * below + above),
         1_250 | 3_250 => large::rests_of(random),

@@ -30,17 +30,15 @@ pub fn change_bytes(random: &mut Random, bytes: &mut Vec<u8>) {
 /// Changes a track in ways that keep its bytes whole and mislead a reader.
 pub fn change_plan(random: &mut Random, plan: &mut FilePlan) {
     let track = plan.track(random, None, None);
+    let zeros = vec![0; random.between(1, 9)];
     match random.below(4) {
         0 => track.fixed[1] ^= 1,
         1 => track.id[0] = if track.id[0] == b'M' { b'A' } else { b'M' },
         2 => {
             let place = random.between(0, track.sequence.items.len());
-            track.sequence.items.insert(place, vec![0; random.between(1, 5)]);
+            track.sequence.items.insert(place, zeros);
         }
-        _ => {
-            track.sequence.end_mark = random.percent(30);
-            track.sequence.tail = vec![0; random.between(1, 5)];
-        }
+        _ => track.sequence.items.push(zeros),
     }
 }
 

@@ -1,5 +1,7 @@
 //! Plans of seek bodies: points, phrases and the order list.
 
+use crate::generate::sequence::SequencePlan;
+use crate::item::END_MARK;
 use crate::random::Random;
 use crate::seek::LETTERS;
 
@@ -81,9 +83,10 @@ impl SeekPlan {
     }
 
     /// Points of a stream; none when nothing was put in.
-    pub fn stream(random: &mut Random, addresses: &[u32]) -> Option<SeekPlan> {
+    pub fn stream(random: &mut Random, sequence: &SequencePlan) -> Option<SeekPlan> {
+        let places = Places::of(random, sequence);
         let mut plan = SeekPlan { final_comma: random.percent(30), ..SeekPlan::default() };
-        let (start, stop) = two_addresses(random, addresses);
+        let (start, stop) = places.two(random);
         if random.percent(45) {
             plan.put(Entry::new(*b"st", start.to_be_bytes().to_vec()));
         }
@@ -91,7 +94,7 @@ impl SeekPlan {
             plan.put(Entry::new(*b"sp", stop.to_be_bytes().to_vec()));
         }
         if random.percent(15) {
-            plan.add_phrases(random, addresses);
+            plan.add_phrases(random, &places);
         }
         if random.percent(15) {
             let length = random.below(6);
@@ -102,19 +105,36 @@ impl SeekPlan {
     }
 
     /// Phrases, a list over them and perhaps positions in it.
-    pub fn phrases(random: &mut Random, addresses: &[u32]) -> SeekPlan {
+    pub fn phrases(random: &mut Random, sequence: &SequencePlan) -> SeekPlan {
+        let places = Places::of(random, sequence);
         let mut plan = SeekPlan { final_comma: random.percent(30), ..SeekPlan::default() };
-        plan.add_phrases(random, addresses);
+        plan.add_phrases(random, &places);
         let letters = plan.letters();
         let length = match random.below(100) {
             0..=9 => 0,
             10..=89 => random.between(1, 8),
             _ => random.between(8, 40),
         };
-        let list: Vec<u8> = (0..length).map(|_| random.pick(&letters)).collect();
+        let mut list: Vec<u8> = (0..length).map(|_| random.pick(&letters)).collect();
+        if places.parted > 50 && letters.len() < LETTERS.len() && random.percent(60) {
+            plan.add_last_call(random, &places, &mut list);
+        }
+        plan.add_positions(random, list.len());
         plan.put(Entry::new(*b"SL", list));
-        plan.add_positions(random, length);
         plan
+    }
+
+    /// Adds a phrase that runs over an end mark, and puts it first, last or
+    /// anywhere in the list.
+    fn add_last_call(&mut self, random: &mut Random, places: &Places, list: &mut Vec<u8>) {
+        let letters = self.letters();
+        let without: Vec<u8> =
+            LETTERS.iter().copied().filter(|letter| !letters.contains(letter)).collect();
+        let letter = random.pick(&without);
+        let (start, stop) = places.over_mark(random);
+        self.put(Entry::phrase(letter, start, stop));
+        let place = random.between(0, list.len());
+        list.insert(random.pick(&[0, place, list.len()]), letter);
     }
 
     fn add_positions(&mut self, random: &mut Random, length: usize) {
@@ -128,7 +148,7 @@ impl SeekPlan {
         }
     }
 
-    fn add_phrases(&mut self, random: &mut Random, addresses: &[u32]) {
+    fn add_phrases(&mut self, random: &mut Random, places: &Places) {
         let count = match random.below(100) {
             0..=94 => random.between(1, 4),
             95..=98 => random.between(4, 12),
@@ -137,18 +157,66 @@ impl SeekPlan {
         let mut letters = *LETTERS;
         random.shuffle(&mut letters);
         for letter in &letters[..count] {
-            let (start, stop) = two_addresses(random, addresses);
+            let (start, stop) = places.two(random);
             self.put(Entry::phrase(*letter, start, stop));
         }
     }
 }
 
-/// Two addresses in order; the ends of the body come often.
-fn two_addresses(random: &mut Random, addresses: &[u32]) -> (u32, u32) {
-    let mut address = |often: u32| match random.below(4) {
-        0 => often,
-        _ => random.pick(addresses),
-    };
-    let (one, other) = (address(0), address(addresses[addresses.len() - 1]));
-    (one.min(other), one.max(other))
+/// Where the points and phrases of a body may lie. Of a body with several
+/// stretches, `parted` of a hundred are one of these.
+struct Places {
+    addresses: Vec<u32>,
+    stretches: Vec<(u32, u32)>,
+    parted: usize,
+}
+
+impl Places {
+    fn of(random: &mut Random, sequence: &SequencePlan) -> Places {
+        let (addresses, stretches) = (sequence.addresses(), sequence.stretches());
+        let parted = match stretches.len() {
+            1 => 0,
+            _ => random.pick(&[20, 60, 100]),
+        };
+        Places { addresses, stretches, parted }
+    }
+
+    /// A start and a stop.
+    fn two(&self, random: &mut Random) -> (u32, u32) {
+        match random.percent(self.parted) {
+            true => self.stretch(random),
+            false => self.any_two(random),
+        }
+    }
+
+    /// A stretch that end marks bound, with the mark before it or the one after
+    /// it now and then.
+    fn stretch(&self, random: &mut Random) -> (u32, u32) {
+        let (start, stop) = random.pick(&self.stretches);
+        let length = END_MARK.len() as u32;
+        let with_mark_before = start > 0 && random.percent(15);
+        let with_mark_after = stop < self.end() && random.percent(40);
+        (start - length * u32::from(with_mark_before), stop + length * u32::from(with_mark_after))
+    }
+
+    /// From one stretch into a later one.
+    fn over_mark(&self, random: &mut Random) -> (u32, u32) {
+        let later = random.between(1, self.stretches.len() - 1);
+        let (start, _) = self.stretches[random.below(later)];
+        (start, self.stretches[later].1)
+    }
+
+    /// Any addresses in order; the ends of the body come often.
+    fn any_two(&self, random: &mut Random) -> (u32, u32) {
+        let mut address = |often: u32| match random.below(4) {
+            0 => often,
+            _ => random.pick(&self.addresses),
+        };
+        let (one, other) = (address(0), address(self.end()));
+        (one.min(other), one.max(other))
+    }
+
+    fn end(&self) -> u32 {
+        self.addresses[self.addresses.len() - 1]
+    }
 }

@@ -77,3 +77,49 @@ pub fn phrase(letter: u8, start: u32, stop: u32) -> Vec<u8> {
 pub fn entries(list: &[Vec<u8>]) -> Vec<u8> {
     list.join(&b","[..])
 }
+
+/// An end mark.
+pub const MARK: [u8; 4] = [0; 4];
+
+/// A note of three bytes; `name` is the last four bits of its value.
+pub fn note(duration: u8, name: u8) -> Vec<u8> {
+    vec![duration, 0x20 | name, 0x14]
+}
+
+/// Three bytes too.
+pub fn rest(duration: u8) -> Vec<u8> {
+    vec![duration, 0xFF, 0x00]
+}
+
+pub fn joined(parts: &[&[u8]]) -> Vec<u8> {
+    parts.concat()
+}
+
+/// A stream, with a seek body unless it is empty.
+pub fn stream(seek: &[u8], body: &[u8]) -> Vec<u8> {
+    match seek {
+        [] => score(STREAM, &[(b"Mtsq", body)]),
+        _ => score(STREAM, &[(b"MspI", seek), (b"Mtsq", body)]),
+    }
+}
+
+/// A phrase track with that order list.
+pub fn song(phrases: &[Vec<u8>], list: &[u8], body: &[u8]) -> Vec<u8> {
+    let seek = entries(&[phrases, &[[b"SL:", list].concat()]].concat());
+    score(PHRASES, &[(b"MspI", &seek), (b"Mtsq", body)])
+}
+
+/// The steps and names of the notes that play, and the end.
+pub fn notes(file: &[u8]) -> (Vec<(u64, u32)>, u64) {
+    let (rows, end) = played(file);
+    (rows.iter().map(|(step, word)| (*step, word >> 17 & 0x0F)).collect(), end)
+}
+
+/// Phrases a, b and c, with a mark after each; S runs from the second over its
+/// mark into the third.
+pub fn karaoke(list: &[u8]) -> Vec<u8> {
+    let line = |name: u8| [note(1, name), rest(9), MARK.to_vec()].concat();
+    let body = [line(1), line(2), line(3)].concat();
+    let phrases = [phrase(b'a', 0, 6), phrase(b'b', 10, 16), phrase(b'c', 20, 26)];
+    song(&[&phrases[..], &[phrase(b'S', 10, 26)]].concat(), list, &body)
+}

@@ -66,20 +66,23 @@ loop-again-2 c = search (needs, reading)
 enum-known-next : tie.Need-enum-known-next Inv-loop μ-loop
 enum-known-next c = search (needs, reading)
 
-end-body-requires : tie.Need-end-body-requires Inv-loop μ-loop
-end-body-requires c κs = search (needs, reading)
+add-count-3 : tie.Need-add-count-3 Inv-loop μ-loop
+add-count-3 c = search (needs, reading)
 
-returns-2 : tie.Need-returns-2 Inv-loop μ-loop
-returns-2 c = search (needs, reading)
+loop-less-3 : tie.Need-loop-less-3 Inv-loop μ-loop
+loop-less-3 c = search (needs, reading)
+
+loop-again-3 : tie.Need-loop-again-3 Inv-loop μ-loop
+loop-again-3 c = search (needs, reading)
 
 enum-known-number : tie.Need-enum-known-number Inv-loop μ-loop
 enum-known-number c = search (needs, reading)
 
+returns-2 : tie.Need-returns-2 Inv-loop μ-loop
+returns-2 c = search (needs, reading)
+
 returns-3 : tie.Need-returns-3 Inv-loop μ-loop
 returns-3 c = search (needs, reading)
-
-returns-4 : tie.Need-returns-4 Inv-loop μ-loop
-returns-4 c = search (needs, reading)
 
 pub read-body-spec : {M : Type 1} → statement M
 read-body-spec =
@@ -105,8 +108,9 @@ read-body-spec =
     loop-less-2
     loop-again-2
     enum-known-next
-    end-body-requires
-    returns-2
+    add-count-3
+    loop-less-3
+    loop-again-3
     enum-known-number
-    returns-3
-    returns-4)
+    returns-2
+    returns-3)

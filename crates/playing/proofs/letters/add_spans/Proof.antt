@@ -2,7 +2,7 @@
 use borrow.Author.Needs.{needs}
 use Prim.Native.Nat.{_-_}
 use lib.ListN.{length}
-use Rattle.playing.proofs.Planning.{Adding, add-starts, adding}
+use Rattle.playing.proofs.LetterSpans.{Adding, add-starts, adding}
 use Rattle.playing.proofs.letters.add_spans.Statement.{statement}
 use Rattle.playing.proofs.letters.add_spans.Tie as tie
 

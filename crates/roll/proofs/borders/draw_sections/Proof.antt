@@ -7,10 +7,10 @@ use Rattle.roll.proofs.borders.draw_sections.Statement.{statement}
 use Rattle.roll.proofs.borders.draw_sections.Tie as tie
 
 abbrev Inv-loop : tie.InvT-loop
-Inv-loop page₀ used layout base spans letters now₀ before₀ i₀ page now before i = (i ≤ length letters) × (length page ≡ length page₀)
+Inv-loop page₀ used layout base letters whole lasts marked now₀ before₀ i₀ page now before i = (i ≤ length letters) × (length page ≡ length page₀)
 
 abbrev μ-loop : tie.MeasureT-loop
-μ-loop page₀ used layout base spans letters now₀ before₀ i₀ page now before i = length letters - i
+μ-loop page₀ used layout base letters whole lasts marked now₀ before₀ i₀ page now before i = length letters - i
 
 pub draw-sections-spec : {M : Type 1} → statement M
 draw-sections-spec =
@@ -20,6 +20,7 @@ draw-sections-spec =
     μ-loop
     (λ c. search needs)
     (λ c. search needs)
+    (λ c κs. search needs)
     (λ c κs. search needs)
     (λ c κs. search needs)
     (λ c κs. search needs)

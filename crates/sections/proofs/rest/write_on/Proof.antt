@@ -6,7 +6,7 @@ use Rattle.sections.proofs.rest.write_on.Tie as tie
 
 write-rows-requires : tie.Need-write-rows-requires
 write-rows-requires c κs =
-    (search needs, (search needs, (search (needs, onward), (search needs, (search (needs, onward), (search (needs, onward), search (needs, onward)))))))
+    (search needs, (search needs, (search (needs, onward), (search (needs, onward), (search needs, (search (needs, onward), (search (needs, onward), search (needs, onward))))))))
 
 span-written-requires : tie.Need-span-written-requires
 span-written-requires c κs = search (needs, onward)

@@ -8,19 +8,19 @@ use Rattle.sections.proofs.rows.write_rows.Statement.{statement}
 use Rattle.sections.proofs.rows.write_rows.Tie as tie
 
 abbrev Inv-loop : tie.InvT-loop
-Inv-loop voice body span before steps₀ words₀ at end row₀ place₀ time₀ steps words row place time =
-    Rowing voice body span before steps₀ words₀ at end steps words row place time
+Inv-loop voice body span marks before steps₀ words₀ at end row₀ place₀ time₀ steps words row place time =
+    Rowing voice body span marks before steps₀ words₀ at end steps words row place time
 
 abbrev μ-loop : tie.MeasureT-loop
-μ-loop voice body span before steps₀ words₀ at end row₀ place₀ time₀ steps words row place time = length body - place
+μ-loop voice body span marks before steps₀ words₀ at end row₀ place₀ time₀ steps words row place time = length body - place
 
 add-end : tie.Need-add-end Inv-loop μ-loop
 add-end c = search (needs, row-turns)
 
 loop-holds : tie.Need-loop-holds Inv-loop μ-loop
 loop-holds c =
-    rows-start _ _ _ _ _ _ _ _ (λ k. omega (arith, c .before .before .before .shared-slice-known .given k))
-    (search needs) (search needs) (search needs) (search needs) (search needs) (search needs) (search needs)
+    rows-start _ _ _ _ _ _ _ _ _ (λ k. omega (arith, c .before .before .before .shared-slice-known .given k))
+    (search needs) (search needs) (search needs) (search needs) (search needs) (search needs) (search needs) (search needs)
 
 same-length : tie.Need-same-length Inv-loop μ-loop
 same-length c = search (needs, row-turns)
@@ -52,6 +52,18 @@ write-row-requires c κs = (search row-turns, search row-turns)
 add-row : tie.Need-add-row Inv-loop μ-loop
 add-row c = search (needs, row-turns)
 
+ends-here-requires : tie.Need-ends-here-requires Inv-loop μ-loop
+ends-here-requires c κs = search (needs, row-turns)
+
+same-length-3 : tie.Need-same-length-3 Inv-loop μ-loop
+same-length-3 c = search (needs, row-turns)
+
+same-length-4 : tie.Need-same-length-4 Inv-loop μ-loop
+same-length-4 c = search (needs, row-turns)
+
+returns-2 : tie.Need-returns-2 Inv-loop μ-loop
+returns-2 c = (search (needs, row-ends), (search (needs, row-ends), search (needs, row-ends)))
+
 loop-less : tie.Need-loop-less Inv-loop μ-loop
 loop-less c = search (needs, row-turns)
 
@@ -64,14 +76,14 @@ loop-less-2 c = search (needs, row-turns)
 loop-again-2 : tie.Need-loop-again-2 Inv-loop μ-loop
 loop-again-2 c = search (needs, row-turns)
 
-same-length-3 : tie.Need-same-length-3 Inv-loop μ-loop
-same-length-3 c = search (needs, row-turns)
+same-length-5 : tie.Need-same-length-5 Inv-loop μ-loop
+same-length-5 c = search (needs, row-turns)
 
-same-length-4 : tie.Need-same-length-4 Inv-loop μ-loop
-same-length-4 c = search (needs, row-turns)
+same-length-6 : tie.Need-same-length-6 Inv-loop μ-loop
+same-length-6 c = search (needs, row-turns)
 
-returns-2 : tie.Need-returns-2 Inv-loop μ-loop
-returns-2 c = (search (needs, row-ends), (search (needs, row-ends), search (needs, row-ends)))
+returns-3 : tie.Need-returns-3 Inv-loop μ-loop
+returns-3 c = (search (needs, row-ends), (search (needs, row-ends), search (needs, row-ends)))
 
 pub write-rows-spec : {M : Type 1} → statement M
 write-rows-spec =
@@ -91,10 +103,14 @@ write-rows-spec =
     add-write-row
     write-row-requires
     add-row
+    ends-here-requires
+    same-length-3
+    same-length-4
+    returns-2
     loop-less
     loop-again
     loop-less-2
     loop-again-2
-    same-length-3
-    same-length-4
-    returns-2)
+    same-length-5
+    same-length-6
+    returns-3)

@@ -1,17 +1,15 @@
 -- `sections::walk::pass_by` meets its contract.
-use Rattle.sections.specs.Reaching.{passedBy}
-use Rattle.model.proofs.Tests.{tests}
+use Rattle.sections.proofs.Nearing.{passing}
+use borrow.Author.Needs.{needs}
 use borrow.Author.Needs.{needs}
 use Rattle.sections.proofs.walk.pass_by.Statement.{statement}
 use Rattle.sections.proofs.walk.pass_by.Tie as tie
 
 returns : tie.Need-returns
-unfolding passedBy
-returns c = search (tests)
+returns c = search (needs, passing)
 
 returns-2 : tie.Need-returns-2
-unfolding passedBy
-returns-2 c = search (tests)
+returns-2 c = search (needs, passing)
 
 pub pass-by-spec : {M : Type 1} → statement M
-pass-by-spec = tie.close (tie.spec (λ c. search needs) returns (λ c. search needs) returns-2)
+pass-by-spec = tie.close (tie.spec (λ c κs. search needs) (λ c. search needs) returns (λ c. search needs) (λ c. search needs) returns-2)

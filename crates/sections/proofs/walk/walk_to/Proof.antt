@@ -1,24 +1,24 @@
 -- `sections::walk::walk_to` meets its contract.
 use borrow.Author.Needs.{needs}
-use native.Mathlib.Omega.{arith}
 use Prim.Native.Nat.{_-_}
 use lib.ListN.{length}
+use native.Mathlib.Omega.{arith}
 use Rattle.sections.proofs.Nearing.{Nearing, near-starts, nearing}
 use Rattle.sections.proofs.walk.walk_to.Statement.{statement}
 use Rattle.sections.proofs.walk.walk_to.Tie as tie
 
 abbrev Inv-loop : tie.InvT-loop
-Inv-loop voice body address now₀ now = Nearing voice body address now
+Inv-loop voice body marks address now₀ now = Nearing voice body (now₀ .at) marks address now
 
 abbrev μ-loop : tie.MeasureT-loop
-μ-loop voice body address now₀ now = length body - now .at
+μ-loop voice body marks address now₀ now = length body - now .at
 
 loop-holds : tie.Need-loop-holds Inv-loop μ-loop
 loop-holds c =
-    near-starts _ _ _ _ (λ k. omega (arith, c .shared-slice-known .given k)) (search needs) (search needs) (search needs) (search needs)
+    near-starts _ _ _ _ _ (λ k. omega (arith, c .shared-slice-known .given k)) (search needs) (search needs) (search needs) (search needs) (search needs)
 
 returns : tie.Need-returns Inv-loop μ-loop
-returns c = search (needs, nearing)
+returns c = (search (needs, nearing), search (needs, nearing))
 
 take-item-requires : tie.Need-take-item-requires Inv-loop μ-loop
 take-item-requires c κs = (search nearing, (search nearing, search needs))
@@ -26,23 +26,20 @@ take-item-requires c κs = (search nearing, (search nearing, search needs))
 pass-by-requires : tie.Need-pass-by-requires Inv-loop μ-loop
 pass-by-requires c κs = search (needs, nearing)
 
+ends-here-requires : tie.Need-ends-here-requires Inv-loop μ-loop
+ends-here-requires c κs = search (needs, nearing)
+
+returns-2 : tie.Need-returns-2 Inv-loop μ-loop
+returns-2 c = (search (needs, nearing), search (needs, nearing))
+
 loop-less : tie.Need-loop-less Inv-loop μ-loop
 loop-less c = search (needs, nearing)
 
 loop-again : tie.Need-loop-again Inv-loop μ-loop
 loop-again c = search (needs, nearing)
 
-pass-by-requires-2 : tie.Need-pass-by-requires-2 Inv-loop μ-loop
-pass-by-requires-2 c κs = search (needs, nearing)
-
-loop-less-2 : tie.Need-loop-less-2 Inv-loop μ-loop
-loop-less-2 c = search (needs, nearing)
-
-loop-again-2 : tie.Need-loop-again-2 Inv-loop μ-loop
-loop-again-2 c = search (needs, nearing)
-
-returns-2 : tie.Need-returns-2 Inv-loop μ-loop
-returns-2 c = search (needs, nearing)
+returns-3 : tie.Need-returns-3 Inv-loop μ-loop
+returns-3 c = (search (needs, nearing), search (needs, nearing))
 
 pub walk-to-spec : {M : Type 1} → statement M
 walk-to-spec =
@@ -54,9 +51,8 @@ walk-to-spec =
     returns
     take-item-requires
     pass-by-requires
+    ends-here-requires
+    returns-2
     loop-less
     loop-again
-    pass-by-requires-2
-    loop-less-2
-    loop-again-2
-    returns-2)
+    returns-3)

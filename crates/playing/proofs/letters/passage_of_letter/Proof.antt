@@ -1,8 +1,8 @@
--- `playing::letters::span_of_letter` meets its contract.
+-- `playing::letters::passage_of_letter` meets its contract.
 use borrow.Author.Needs.{needs}
 use Rattle.playing.proofs.Phrased.{phrased}
-use Rattle.playing.proofs.letters.span_of_letter.Statement.{statement}
-use Rattle.playing.proofs.letters.span_of_letter.Tie as tie
+use Rattle.playing.proofs.letters.passage_of_letter.Statement.{statement}
+use Rattle.playing.proofs.letters.passage_of_letter.Tie as tie
 
 find-phrase-requires : tie.Need-find-phrase-requires
 find-phrase-requires c κs = (search needs, search phrased)
@@ -16,8 +16,8 @@ returns c = search phrased
 returns-2 : tie.Need-returns-2
 returns-2 c = search phrased
 
-pub span-of-letter-spec : {M : Type 1} → statement M
-span-of-letter-spec =
+pub passage-of-letter-spec : {M : Type 1} → statement M
+passage-of-letter-spec =
     tie.close
     (tie.spec
     find-phrase-requires
