@@ -1,5 +1,8 @@
-/* Runs the proved operations and those of the baseline on the same files in turn, sees to it that they answer the same, and prints for
- * each task the microseconds of both and their ratio. The time of a task is the least of many rounds. */
+/* Runs the proved operations and those of the baseline on the same files in turn, and sees to it that they answer the same.
+ *   bench            prints for each task the microseconds of both and their ratio; the time of a task is the least of many rounds
+ *   bench TASK       prints the task's name, tasks being a, b, c and on; ends with 1 where there is no such task
+ *   bench TASK SIDE  lays the task's file out and, where SIDE is o for the proved operation or t for the baseline's, calls that once; prints
+ *                    nothing, so that somebody else can count its instructions */
 #include <stdio.h>
 #include <string.h>
 #include <time.h>
@@ -149,7 +152,7 @@ static void chunks(size_t many) {
     end_file(body);
 }
 
-/* TASKS */
+/* CALLS */
 
 static void read_ours(void) {
     struct smaf_read_reply r = smaf_read(file, length, length, ours.rows, 4 * ROWS);
@@ -178,6 +181,48 @@ static void flatten_theirs(void) {
 static void code_ours(void) { ours.count = smaf_check_code(file, length); }
 static void code_theirs(void) { theirs.count = base_check_code(file, length); }
 
+/* TASKS: the file of each, and the refusal that both sides answer with */
+
+static void file_of_items(void) { stream(100000, LARGEST - 8); }
+static void file_of_chunks(void) { chunks(8000); }
+static void file_of_stream(void) { stream(20000, LARGEST); }
+static void file_of_order(void) { order(20, 3000, 0); }
+static void file_of_stopped_order(void) { order(20, 3000, 1); }
+static void file_of_short_order(void) { order(20, 1000, 0); }
+static void file_of_long_order(void) { order(200, 58000, 0); }
+
+static const struct task {
+    const char *what;
+    void (*lay_out)(void);
+    void (*mine)(void);
+    void (*other)(void);
+    size_t refusal;
+} tasks[] = {
+    {"read: a 64 KB body of small items", file_of_items, read_ours, read_theirs, 0},
+    {"read: 8,000 chunks", file_of_chunks, read_ours, read_theirs, 0},
+    {"play: a stream of 20,000 messages", file_of_stream, play_ours, play_theirs, 0},
+    {"play: an order of 3,000 letters, 60,000 messages", file_of_order, play_ours, play_theirs, 0},
+    {"play: an order of 3,000 letters, stopped by a mark in the last", file_of_stopped_order, play_ours, play_theirs, 0},
+    {"flatten: an order of 1,000 letters, 20,000 messages", file_of_short_order, flatten_ours, flatten_theirs, 0},
+    {"refused: an order of 58,000 letters, play", file_of_long_order, play_ours, play_theirs, 15},
+    {"refused: an order of 58,000 letters, flatten", file_of_long_order, flatten_ours, flatten_theirs, 18},
+    {"check code of 64 KB", file_of_items, code_ours, code_theirs, 0},
+};
+enum { TASKS = sizeof tasks / sizeof *tasks };
+
+/* Lays the task's file out; whether both sides answer it alike, and with the task's refusal. */
+static int agree(const struct task *task) {
+    task->lay_out();
+    memset(&ours, 0, sizeof ours);
+    memset(&theirs, 0, sizeof theirs);
+    task->mine();
+    task->other();
+    if (memcmp(&ours, &theirs, sizeof ours) == 0 && ours.refusal == task->refusal)
+        return 1;
+    printf("%s: the two answer differently, or with another refusal than %zu\n", task->what, task->refusal);
+    return 0;
+}
+
 /* TIME */
 
 static double now(void) {
@@ -194,49 +239,56 @@ static double once(void (*task)(void), int calls) {
     return (now() - start) / calls;
 }
 
-static int over;
-
-static void measure(const char *what, void (*mine)(void), void (*other)(void), size_t refusal) {
-    memset(&ours, 0, sizeof ours);
-    memset(&theirs, 0, sizeof theirs);
-    mine();
-    other();
-    if (memcmp(&ours, &theirs, sizeof ours) != 0 || ours.refusal != refusal) {
-        printf("%s: the two answer differently, or with another refusal than %zu\n", what, refusal);
-        over = 2;
-        return;
-    }
-    int calls = (int)(2000 / (once(other, 3) + 1)) + 1;
+/* 0; or 1 where the ratio is over 1.25, 2 where the two sides do not agree. */
+static int measure(const struct task *task) {
+    if (!agree(task))
+        return 2;
+    int calls = (int)(2000 / (once(task->other, 3) + 1)) + 1;
     double best_mine = 1e18, best_other = 1e18;
     for (int round = 0; round < ROUNDS; round++) {
-        double a = once(mine, calls), b = once(other, calls);
+        double a = once(task->mine, calls), b = once(task->other, calls);
         best_mine = a < best_mine ? a : best_mine;
         best_other = b < best_other ? b : best_other;
     }
     double ratio = best_mine / best_other;
-    over |= ratio > 1.25;
-    printf("| %s | %.1f | %.1f | %.2f%s |\n", what, best_mine, best_other, ratio, ratio > 1.25 ? " (over)" : "");
+    printf("| %s | %.1f | %.1f | %.2f%s |\n", task->what, best_mine, best_other, ratio, ratio > 1.25 ? " (over)" : "");
     fflush(stdout);
+    return ratio > 1.25;
 }
 
-int main(void) {
+static int measure_all(void) {
+    int worst = 0;
     printf("| task | proved, µs | baseline, µs | ratio |\n|---|---|---|---|\n");
-    stream(100000, LARGEST - 8);
-    measure("read: a 64 KB body of small items", read_ours, read_theirs, 0);
-    chunks(8000);
-    measure("read: 8,000 chunks", read_ours, read_theirs, 0);
-    stream(20000, LARGEST);
-    measure("play: a stream of 20,000 messages", play_ours, play_theirs, 0);
-    order(20, 3000, 0);
-    measure("play: an order of 3,000 letters, 60,000 messages", play_ours, play_theirs, 0);
-    order(20, 3000, 1);
-    measure("play: an order of 3,000 letters, stopped by a mark in the last", play_ours, play_theirs, 0);
-    order(20, 1000, 0);
-    measure("flatten: an order of 1,000 letters, 20,000 messages", flatten_ours, flatten_theirs, 0);
-    order(200, 58000, 0);
-    measure("refused: an order of 58,000 letters, play", play_ours, play_theirs, 15);
-    measure("refused: an order of 58,000 letters, flatten", flatten_ours, flatten_theirs, 18);
-    stream(100000, LARGEST - 8);
-    measure("check code of 64 KB", code_ours, code_theirs, 0);
-    return over;
+    for (int i = 0; i < TASKS; i++) {
+        int found = measure(&tasks[i]);
+        worst = found > worst ? found : worst;
+    }
+    return worst;
+}
+
+static int name(const struct task *task) {
+    if (!agree(task))
+        return 2;
+    printf("%s\n", task->what);
+    return 0;
+}
+
+static void call(const struct task *task, char side) {
+    task->lay_out();
+    if (side == 'o')
+        task->mine();
+    if (side == 't')
+        task->other();
+}
+
+int main(int words, char **word) {
+    if (words == 1)
+        return measure_all();
+    int task = word[1][0] - 'a';
+    if (task < 0 || task >= TASKS)
+        return 1;
+    if (words == 2)
+        return name(&tasks[task]);
+    call(&tasks[task], word[2][0]);
+    return 0;
 }

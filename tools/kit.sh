@@ -22,3 +22,7 @@ kit_run() { # kit_run PROGRAM WORD..
     *) "$kit_tools/qemu-x86_64" "$kit_loader" --library-path "$kit_lib" "$@" ;;
   esac
 }
+
+kit_count() { # kit_count PROGRAM WORD..: how many instructions a program runs that writes nothing; on machines with the emulator
+  "$kit_tools/qemu-x86_64" -one-insn-per-tb -d exec,nochain "$kit_loader" --library-path "$kit_lib" "$@" 2>&1 | wc -l
+}
