@@ -32,7 +32,7 @@ fn no_span() -> Span
 }
 
 // The span of a letter's phrase, and whether playing stops in it.
-fn passage_of_letter(voice: Voice, body: &[u8], seek: &[u8], letter: u8) -> Passage
+pub fn passage_of_letter(voice: Voice, body: &[u8], seek: &[u8], letter: u8) -> Passage
     requires { ⌜ Ready voice true (now body) (now seek) ⌝ }
     requires { ⌜ isSome (phraseOf letter (entriesSaid true (now seek))) ≡ true ⌝ }
     ensures { λ r. ⌜ r ≡ letterPassage (itemsOf voice (now (body .entry))) (length (now (body .entry))) (entriesSaid true (now (seek .entry))) letter ⌝ }

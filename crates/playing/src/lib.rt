@@ -10,6 +10,7 @@ pub use bodies::bytes_in;
 pub use bodies::open_track;
 pub use letters::find_spans;
 pub use letters::letters_heard;
+pub use letters::passage_of_letter;
 pub use operation::play;
 pub use phrases::letters_played;
 pub use stream::points_of;

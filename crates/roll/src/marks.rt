@@ -4,12 +4,9 @@ ghost use mathlib.Core.Path.{_≡_};
 ghost use mathlib.Core.Bool.{true};
 ghost use Prim.Native.Nat.{_≤_, _<_};
 ghost use lib.ListN.{length};
-ghost use Rattle.model.specs.Words.{isSome};
-ghost use Rattle.model.specs.Seek.{phraseOf};
 ghost use Rattle.playing.specs.Performing.{entriesSaid, Named, Ready};
 use super::frame::later;
 use super::messages::more;
-use model::FoundPhrase;
 use model::ReadItem;
 use model::Span;
 use model::Voice;
@@ -131,24 +128,12 @@ pub fn marked_letters(voice: Voice, body: &[u8], spans: [Span; 256]) -> [bool; 2
 }
 
 // Whether playing stops at an end mark in the section of a letter.
-fn stops_in(voice: Voice, body: &[u8], seek: &[u8], letter: u8) -> bool
-    requires { ⌜ Ready voice true (now body) (now seek) ⌝ }
-    requires { ⌜ isSome (phraseOf letter (entriesSaid true (now seek))) ≡ true ⌝ }
-{
-    match seek::find_phrase(true, seek, letter) {
-        FoundPhrase::Between { start, stop } => {
-            sections::span_between(voice, body, start as usize, stop as usize).stops
-        }
-        FoundPhrase::Nowhere => false,
-    }
-}
-
 fn stops_at(voice: Voice, body: &[u8], seek: &[u8], letters: &[u8], i: usize) -> bool
     requires { ⌜ Ready voice true (now body) (now seek) ⌝ }
     requires { ⌜ Named (entriesSaid true (now seek)) (now letters) ⌝ }
     requires { ⌜ i < length (now letters) ⌝ }
 {
-    stops_in(voice, body, seek, letters[i])
+    playing::passage_of_letter(voice, body, seek, letters[i]).stops
 }
 
 // How many of the letters that are heard play to the end of their section: all, or all but the last, where playing stops in that.

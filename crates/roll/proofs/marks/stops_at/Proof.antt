@@ -4,8 +4,8 @@ use borrow.Author.Needs.{needs}
 use Rattle.roll.proofs.marks.stops_at.Statement.{statement}
 use Rattle.roll.proofs.marks.stops_at.Tie as tie
 
-stops-in-requires : tie.Need-stops-in-requires
-stops-in-requires c κs = (search needs, search (needs, named-here))
+passage-of-letter-requires : tie.Need-passage-of-letter-requires
+passage-of-letter-requires c κs = (search needs, search (needs, named-here))
 
 pub stops-at-spec : {M : Type 1} → statement M
-stops-at-spec = tie.close (tie.spec (λ c. search needs) stops-in-requires (λ c. search needs))
+stops-at-spec = tie.close (tie.spec (λ c. search needs) passage-of-letter-requires (λ c. search needs))
