@@ -11,5 +11,10 @@ struct smaf_play_reply base_play(const uint8_t *buffer, size_t buffer_length, si
                                  size_t steps_length, uint32_t *words, size_t words_length);
 struct smaf_flatten_reply base_flatten(const uint8_t *buffer, size_t buffer_length, size_t n, size_t row, uint8_t *room,
                                        size_t room_length);
+struct smaf_items_reply base_items(const uint8_t *buffer, size_t buffer_length, size_t n, size_t row, uint32_t *items, size_t items_length);
+struct smaf_entries_reply base_entries(const uint8_t *buffer, size_t buffer_length, size_t n, size_t row, uint32_t *entries,
+                                       size_t entries_length, uint8_t *letters, size_t letters_length);
+struct smaf_write_reply base_write(const uint32_t *numbers, size_t numbers_length, const uint8_t *bytes, size_t bytes_length, uint8_t *room,
+                                   size_t room_length);
 
 #endif

@@ -1,4 +1,4 @@
-/* Runs the proved operations and those of the baseline on the same files in turn, and sees to it that they answer the same.
+/* Runs the proved operations and those of the baseline on the same files and tables in turn, and sees to it that they answer the same.
  *   bench            prints for each task the microseconds of both and their ratio; the time of a task is the least of many rounds
  *   bench TASK       prints the task's name, tasks being a, b, c and on; ends with 1 where there is no such task
  *   bench TASK SIDE  lays the task's file out and, where SIDE is o for the proved operation or t for the baseline's, calls that once; prints
@@ -26,8 +26,8 @@ static size_t length;
 
 /* FILES */
 
-static void put(const void *bytes, size_t many) {
-    memcpy(file + length, bytes, many);
+static void put(const void *given, size_t many) {
+    memcpy(file + length, given, many);
     length += many;
 }
 
@@ -152,6 +152,119 @@ static void chunks(size_t many) {
     end_file(body);
 }
 
+/* TABLES, of which a file is written */
+
+static uint32_t numbers[LARGEST];
+static uint8_t bytes[LARGEST];
+static size_t number_count, byte_count;
+
+/* How far the items of a track come in its sequence body. */
+static size_t place;
+
+static void give_bytes(const void *given, size_t many) {
+    memcpy(bytes + byte_count, given, many);
+    byte_count += many;
+}
+
+static void give_pair(size_t a, size_t b) {
+    numbers[number_count++] = (uint32_t)a;
+    numbers[number_count++] = (uint32_t)b;
+}
+
+static void give_entry(unsigned kind, unsigned letter, size_t from, size_t to) {
+    give_pair(kind, letter);
+    give_pair(from, to);
+}
+
+/* An item whose word has these fields; it takes so many bytes behind its duration. */
+static void give_item(uint32_t duration, uint32_t kind, uint32_t value, uint32_t gate, size_t size) {
+    uint32_t channel = kind < 14 ? any(4) : 0;
+    give_pair(duration, kind << 27 | channel << 25 | value << 17 | gate << 2);
+    place += (duration < 128 ? 1 : 2) + size;
+}
+
+static void give_note(uint32_t duration, uint32_t gate) { give_item(duration, 1, any(3) << 4 | (any(12) + 1), gate, gate < 128 ? 2 : 3); }
+
+static void begin_tables(void) {
+    number_count = byte_count = 0;
+    give_bytes("\0\0\0\0\0", 5);
+}
+
+/* Answers where the track's counts stand, which are set when its parts are given: entries, items; then letters and source. */
+static uint32_t *give_track(unsigned number, unsigned phrases) {
+    uint32_t *counts = numbers + number_count;
+    uint8_t head[7] = {(uint8_t)number, 0, (uint8_t)phrases, 2, 2, 0, 0};
+    memset(counts, 0, 4 * sizeof *counts);
+    number_count += 4;
+    place = 0;
+    give_bytes(head, 7);
+    return counts;
+}
+
+/* One track of short notes, three bytes each, in eight phrases, with an order of so many letters. */
+static void tables_of_notes(void) {
+    enum { PHRASE = 2700, ORDER = 500 };
+    state = 3;
+    begin_tables();
+    uint32_t *counts = give_track(0, 1);
+    for (unsigned p = 0; p < 8; p++)
+        give_entry(2, 'a' + p, p * PHRASE * 3, (p + 1) * PHRASE * 3);
+    give_entry(3, 0, 0, 0);
+    for (int i = 0; i < 8 * PHRASE; i++)
+        give_note(any(24) + 1, any(100) + 1);
+    for (int i = 0; i < ORDER; i++)
+        bytes[byte_count++] = (uint8_t)('a' + any(8));
+    counts[0] = 9, counts[1] = 8 * PHRASE, counts[2] = ORDER;
+}
+
+/* An exclusive of so many bytes from maker to F7, which stand in the source behind three that are its head. */
+static void give_exclusive(uint32_t duration, uint32_t *counts, uint32_t size) {
+    give_pair(duration, 14u << 27 | counts[3] << 11 | size << 3);
+    place += (duration < 128 ? 1 : 2) + 3 + size;
+    give_bytes("\xFF\xF0", 3);
+    for (uint32_t i = 1; i < size; i++)
+        bytes[byte_count++] = (uint8_t)any(128);
+    bytes[byte_count++] = 0xF7;
+    counts[3] += 3 + size;
+}
+
+/* Of sixteen items half are notes, some of them long, and the others controls, short forms, exclusives, rests; few are end marks. */
+static void give_mixed(uint32_t *counts) {
+    uint32_t duration = any(4) ? any(100) : any(16000) + 128, turn = any(16);
+    counts[1]++;
+    if (turn < 8)
+        give_note(duration, any(4) ? any(127) + 1 : any(16000) + 128);
+    else if (turn < 12)
+        give_item(duration, any(8) + 3, any(5), 0, 3);
+    else if (turn < 14)
+        give_item(duration, any(3) + 11, any(14) + 1, 0, 2);
+    else if (turn < 15)
+        give_exclusive(duration, counts, any(16) + 3);
+    else if (any(4))
+        give_item(duration, 15, 0, 0, 2);
+    else
+        give_item(0, 16, 0, 0, 3);
+}
+
+/* Eight tracks of mixed events, streams with a start and a stop. */
+static void tables_of_tracks(void) {
+    state = 4;
+    begin_tables();
+    for (unsigned number = 0; number < 8; number++) {
+        uint32_t *counts = give_track(number, 0);
+        uint32_t *entries = numbers + number_count;
+        give_entry(0, 0, 0, 0);
+        give_entry(1, 0, 0, 0);
+        counts[0] = 2;
+        while (place < 8100) {
+            if (counts[1] == 100)
+                entries[2] = (uint32_t)place;
+            give_mixed(counts);
+        }
+        entries[6] = (uint32_t)place;
+    }
+}
+
 /* CALLS */
 
 static void read_ours(void) {
@@ -178,10 +291,18 @@ static void flatten_theirs(void) {
     struct smaf_flatten_reply r = base_flatten(file, length, length, 2, theirs.room, LARGEST);
     theirs.refusal = r.refusal, theirs.place = r.place, theirs.count = r.length;
 }
+static void write_ours(void) {
+    struct smaf_write_reply r = smaf_write(numbers, number_count, bytes, byte_count, ours.room, LARGEST);
+    ours.refusal = r.refusal, ours.place = r.place, ours.count = r.length;
+}
+static void write_theirs(void) {
+    struct smaf_write_reply r = base_write(numbers, number_count, bytes, byte_count, theirs.room, LARGEST);
+    theirs.refusal = r.refusal, theirs.place = r.place, theirs.count = r.length;
+}
 static void code_ours(void) { ours.count = smaf_check_code(file, length); }
 static void code_theirs(void) { theirs.count = base_check_code(file, length); }
 
-/* TASKS: the file of each, and the refusal that both sides answer with */
+/* TASKS: the file or the tables of each, and the refusal that both sides answer with */
 
 static void file_of_items(void) { stream(100000, LARGEST - 8); }
 static void file_of_chunks(void) { chunks(8000); }
@@ -206,6 +327,8 @@ static const struct task {
     {"flatten: an order of 1,000 letters, 20,000 messages", file_of_short_order, flatten_ours, flatten_theirs, 0},
     {"refused: an order of 58,000 letters, play", file_of_long_order, play_ours, play_theirs, 15},
     {"refused: an order of 58,000 letters, flatten", file_of_long_order, flatten_ours, flatten_theirs, 18},
+    {"write: a 64 KB file of one track, short notes in phrases", tables_of_notes, write_ours, write_theirs, 0},
+    {"write: a 64 KB file of eight tracks, mixed events", tables_of_tracks, write_ours, write_theirs, 0},
     {"check code of 64 KB", file_of_items, code_ours, code_theirs, 0},
 };
 enum { TASKS = sizeof tasks / sizeof *tasks };

@@ -186,7 +186,7 @@ static struct refusal check_setup(const uint8_t *s, struct stretch setup) {
 
 /* POINTS */
 
-static uint8_t is_letter[256];
+uint8_t is_letter[256];
 __attribute__((constructor)) static void fill(void) {
     for (const char *p = "abcdefghijklmnopqrstuvwxyzABEIKSR"; *p; p++)
         is_letter[(uint8_t)*p] = 1;
@@ -279,8 +279,6 @@ static struct refusal check_points(const uint8_t *s, struct track *t) {
 }
 
 /* TRACKS */
-
-static int is_time_base(uint8_t code) { return code <= 3 || (code >= 0x10 && code <= 0x13); }
 
 static int is_readable(const uint8_t *s, size_t at, size_t size) {
     uint32_t family = number_4(s + at) >> 8;

@@ -41,6 +41,11 @@ static inline uint32_t number_4(const uint8_t *s) {
 
 #define ID(a, b, c, d) ((uint32_t)(a) << 24 | (uint32_t)(b) << 16 | (uint32_t)(c) << 8 | (uint32_t)(d))
 
+/* The letters that phrases have. */
+extern uint8_t is_letter[256];
+
+static inline int is_time_base(uint8_t code) { return code <= 3 || (code >= 0x10 && code <= 0x13); }
+
 /* One item: how it is read. Answers the place after it, or 0 where it is refused. */
 enum { NOTHING, MESSAGE, END_MARK };
 struct item {

@@ -1,5 +1,5 @@
-/* The C library of Qishradul: reads SMAF files (.mmf), plays and flattens their tracks, and gives the pitch of a note and the
- * check code of any bytes.
+/* The C library of Qishradul: reads SMAF files (.mmf), plays and flattens their tracks, gives a track's items and seek entries, writes a
+ * whole file from such items and entries, and gives the pitch of a note and the check code of any bytes.
  *
  * `rt staticlib smaf_c` writes target/staticlib/libsmaf_c.a, for programs on x86-64 Linux. It needs nothing beside the C library's
  * memcpy and memset. The functions keep nothing between calls and reserve no memory.
@@ -8,10 +8,10 @@
  * holds past n alters nothing. Any content, any n, any row number and any length gets an answer.
  *
  * ANSWERS. Each function but smaf_check_code returns a struct. Where its `refusal` is 0 the call was accepted: `place` is 0, and the
- * fields after it hold what was asked. Else `refusal` is a number of the table below, `place` is where in the file that is, and the fields
- * after it are 0.
+ * fields after it hold what was asked. Else `refusal` is a number of the table below, `place` is where in the file that is (for smaf_write:
+ * in which track), and the fields after it are 0.
  *
- * MEMORY. `buffer` is only read. An accepted call writes the rows or bytes that it reports, from the head of each output on; the rest of
+ * MEMORY. What is const is only read. An accepted call writes the rows or bytes that it reports, from the head of each output on; the rest of
  * each output stays as it was. A refused call writes nothing.
  *
  * WHAT THE CALLER OWES, and the library cannot test:
@@ -19,7 +19,7 @@
  *   (clear a table that is fresh from malloc). That holds for a length of 0 too: the pointer is then not NULL, but nothing is read or
  *   written through it, so the address of any object of that type will do.
  * - The memory areas of one call do not overlap.
- * - While a call runs, nothing else writes to its buffer, and nothing else uses its outputs. Calls on other memory may run beside it.
+ * - While a call runs, nothing else writes to what it reads, and nothing else uses its outputs. Calls on other memory may run beside it.
  * - There is stack for the call: 128 KiB is enough.
  *
  * REFUSALS and their places, in the order in which they are tried: first the file's own chunk list; then each track in file order, from 8 on,
@@ -46,11 +46,14 @@
  *   12  a seek body that is empty or malformed                               the body; the entry
  *   13  an address or a position against the rules                           the entry
  *   14  a letter without a phrase                                            the letter
- *   16  the row names no readable track (play, flatten)                      0
+ *   16  the row names no readable track (play, flatten, items, entries)      0
  *   17  a phrase track without an order list (play, flatten)                 the track's header
- *   15  an output table too short                                            0 reading; the track's header playing
+ *   15  an output table too short                                            the track's header playing; else 0
  *   18  a plain form over 65,536 bytes or over the room (flatten)            the track's header
  *   19  not a note byte, or a reserved shift (pitch)                         0
+ *   24  over 16 tracks, or a file over 65,536 bytes or over the room (write) 0
+ *
+ * smaf_write is not given a file: what these numbers mean there, and in which order they are tried, stands with it.
  *
  * PROMISED AND NOT. That each function answers and writes exactly what its definition says is proved of its source (crates/smaf_c;
  * docs/PROMISES.md). That this header declares what that source has is tested, not proved. Nothing is promised of the compiler's back
@@ -119,6 +122,103 @@ struct smaf_flatten_reply {
 };
 struct smaf_flatten_reply smaf_flatten(const uint8_t *buffer, size_t buffer_length, size_t n, size_t row, uint8_t *room,
                                        size_t room_length);
+
+/* ITEMS: those of the track that a chunk row names, as smaf_write takes them.
+ *
+ * Two numbers of `items` are one item, in the order in which they stand in the sequence body: its duration, and a word as in a played row.
+ * Beside the kinds of played rows there are 15, a NOP (0x78000000), and 16, an end mark (0x80000000), whose duration is 0. A table of odd
+ * length has room for the whole items in it. The track may be a PCM track too, but only a score track's items can be written.
+ *
+ * Refused as a read of the file is, but for 15; then with 16; then with 15 at 0.
+ *
+ * Accepted: the first 2 * count numbers of `items` are the items, the rest is as it was. Refused: `items` is as it was.
+ *
+ * No track has more than 21,845 items, so a table of 43,690 numbers is never refused with 15. */
+struct smaf_items_reply {
+    uint32_t refusal; /* 0, 1 to 16, or 20 to 23 */
+    size_t place;
+    size_t count; /* how many items the track has */
+};
+struct smaf_items_reply smaf_items(const uint8_t *buffer, size_t buffer_length, size_t n, size_t row, uint32_t *items,
+                                   size_t items_length);
+
+/* ENTRIES: the seek entries of the track that a chunk row names, as smaf_write takes them. A track without a seek chunk has none.
+ *
+ * Four numbers of `entries` are one entry: its kind, a letter, from, to.
+ *
+ *     kind        letter      from                 to
+ *     0 st        0           the start point      0
+ *     1 sp        0           the stop point       0
+ *     2 phrase    its letter  its start address    its stop address
+ *     3 SL        0           how many letters     0
+ *
+ * The letters of the order list (SL) stand in `letters`. In a stream (sequence type 0) a point is an address too, in a phrase track a
+ * position in the order list. A table whose length is no multiple of four has room for the whole entries in it.
+ *
+ * Refused as smaf_items is: with 15 at 0 where either table has too little room.
+ *
+ * Accepted: the first 4 * count numbers of `entries` are the entries, the first bytes of `letters`, as many as the reply says, the letters;
+ * the rest of both is as it was. Refused: both are as they were.
+ *
+ * No track has more than 36 entries, so 144 numbers and 65,536 bytes are never refused with 15. */
+struct smaf_entries_reply {
+    uint32_t refusal; /* 0, 1 to 16, or 20 to 23 */
+    size_t place;
+    size_t count;   /* how many entries the track has */
+    size_t letters; /* how many letters its order list has; 0 without one */
+};
+struct smaf_entries_reply smaf_entries(const uint8_t *buffer, size_t buffer_length, size_t n, size_t row, uint32_t *entries,
+                                       size_t entries_length, uint8_t *letters, size_t letters_length);
+
+/* WRITE: a whole file, from its five contents bytes and its score tracks of format type 0. The file has a CNTI chunk of those five bytes, then
+ * the tracks in the order in which they are given, of each its seek chunk (none where it has no entries) before its sequence chunk, and the
+ * right check code. Reading it gives what was put in; and a file of that layout, with up to 16 tracks, the right check code and no comma
+ * after a seek body's last entry, comes out byte for byte as it was from what smaf_read, smaf_entries and smaf_items give of it.
+ *
+ * Two tables say what is written. `bytes` begins with the five contents bytes. Then the tracks stand in both tables one behind the other:
+ *
+ *     numbers   how many entries, items, letters and source bytes the track has: four counts
+ *               its entries, four numbers each, as smaf_entries gives them
+ *               its items, two numbers each, as smaf_items gives them
+ *     bytes     its number, the last byte of the chunk's ID
+ *               its six fixed bytes: format type, sequence type, time base D, time base G, two of channel status
+ *               the letters of its order list
+ *               the source of its exclusives
+ *
+ * A count that runs past its table's end means what is left there. A track is there where its four counts and its seven bytes are: what is
+ * left of the tables behind the last one is not looked at.
+ *
+ * A word is exactly that of an item of a score: what its kind does not use is 0. An exclusive's word, kind 14, has a place and a size; its
+ * bytes, from the maker's to 0xF7, are `size` bytes of the track's source from place + 3 on. So the sequence body that was read can be lent as
+ * the source of the items that smaf_items gave of it, also where items were changed, put in or taken out. A track without exclusives needs
+ * no source. What an entry does not use is not looked at, an SL's count of letters neither. Addresses are those in the body that the items make:
+ * whoever changes how many bytes an item takes moves the addresses behind it.
+ *
+ * Refused, in this order; the place is the track's index, from 0 on, for all but 7 and 24:
+ *
+ *    6  a track's number again (the second)
+ *    7  no track; the place is 0
+ *       then, track by track:
+ *    8  a format type other than 0, an unknown sequence type or time base
+ *   11  no items
+ *   21, 22, 23   of the first item at fault the first of these: 23 a duration over 16,511, or an end mark's over 0; 22 an unknown kind, or 2,
+ *       which a score has not; 21 a forbidden note; 21 a gate time of 0; 23 one over 16,511; 23 a reserved value; 23 an exclusive of a size under
+ *       3, past its source, or not ending in 0xF7; 23 bits that should be 0
+ *   12  an unknown kind of entry; a letter that is none; a point of a phrase track over 255; entries out of order, or one again
+ *   13  an address or a position against the rules
+ *   14  a letter without a phrase
+ *       then:
+ *   24  over 16 tracks, or a file over 65,536 bytes or over the room; the place is 0
+ *
+ * Accepted: the first `length` bytes of `room` are the file, the rest is as it was. Refused: `room` is as it was. A room of 65,536 bytes is
+ * enough for every file that there is. */
+struct smaf_write_reply {
+    uint32_t refusal; /* 0, 6 to 8, 11 to 14, or 21 to 24 */
+    size_t place;
+    size_t length; /* how many bytes the file has */
+};
+struct smaf_write_reply smaf_write(const uint32_t *numbers, size_t numbers_length, const uint8_t *bytes, size_t bytes_length,
+                                   uint8_t *room, size_t room_length);
 
 /* PITCH: of a note event's first byte, whose channel bits (the top two) are ignored, and the value byte of an octave shift: 0x00 to 0x04 are
  * octaves up, 0x81 to 0x84 one to four octaves down. It uses no memory of the caller. */

@@ -1,7 +1,9 @@
 //! Cases and their answers: one operation on one buffer, as bytes in and text
 //! out.
 
+use crate::description::{BodyDescription, Description, SeekEntry};
 use crate::file::{read, Melody};
+use crate::give::{entries, items};
 use crate::listing::listing;
 use crate::numbers::number_at;
 use crate::pitch::pitch;
@@ -9,10 +11,15 @@ use crate::plain::flatten;
 use crate::play::{play, word_of, Played};
 use crate::progress::progress;
 use crate::refusal::Refusal;
+use crate::word::WordItem;
+use crate::write::{write_body, write_file};
 use std::fmt::Write;
 
-/// The largest buffer and the largest room.
+/// The largest room, and the largest buffer that holds a file.
 pub const LARGEST_ROOM: u32 = 70_000;
+
+/// The largest buffer that holds a description.
+pub const LARGEST_DESCRIPTION: u32 = 300_000;
 
 /// The operation byte and the four numbers.
 const HEAD: usize = 17;
@@ -28,6 +35,10 @@ pub enum Operation {
     Flatten,
     Pitch,
     Listing,
+    Write,
+    Items,
+    Entries,
+    WriteBody,
 }
 
 impl Operation {
@@ -38,6 +49,10 @@ impl Operation {
             b'f' => Some(Operation::Flatten),
             b't' => Some(Operation::Pitch),
             b'l' => Some(Operation::Listing),
+            b'w' => Some(Operation::Write),
+            b'm' => Some(Operation::Items),
+            b's' => Some(Operation::Entries),
+            b'b' => Some(Operation::WriteBody),
             _ => None,
         }
     }
@@ -49,6 +64,22 @@ impl Operation {
             Operation::Flatten => b'f',
             Operation::Pitch => b't',
             Operation::Listing => b'l',
+            Operation::Write => b'w',
+            Operation::Items => b'm',
+            Operation::Entries => b's',
+            Operation::WriteBody => b'b',
+        }
+    }
+
+    /// Whether its buffer holds a file that is read.
+    pub fn reads_file(self) -> bool {
+        !matches!(self, Operation::Pitch | Operation::Write | Operation::WriteBody)
+    }
+
+    pub fn largest_buffer(self) -> u32 {
+        match self {
+            Operation::Write | Operation::WriteBody => LARGEST_DESCRIPTION,
+            _ => LARGEST_ROOM,
         }
     }
 }
@@ -90,12 +121,13 @@ fn take_case(stream: &[u8]) -> Option<(Case, usize)> {
     let row = number_at(stream, 5)?;
     let room = number_at(stream, 9)?;
     let length = number_at(stream, 13)?;
-    if room > LARGEST_ROOM || length > LARGEST_ROOM {
+    if room > LARGEST_ROOM || length > operation.largest_buffer() {
         return None;
     }
     let end = HEAD + length as usize;
     let buffer = stream.get(HEAD..end)?.to_vec();
-    Some((Case { operation, stated, row, room, buffer }, end))
+    let case = Case { operation, stated, row, room, buffer };
+    case.is_whole().then_some((case, end))
 }
 
 impl Case {
@@ -108,6 +140,28 @@ impl Case {
         bytes
     }
 
+    /// Whether the description in the buffer, if there is to be one, is not cut.
+    pub fn is_whole(&self) -> bool {
+        match self.operation {
+            Operation::Write => Description::from_bytes(&self.buffer).is_some(),
+            Operation::WriteBody => BodyDescription::from_bytes(&self.buffer).is_some(),
+            _ => true,
+        }
+    }
+
+    /// The bytes that a case of the writer is answered with, or the refusal.
+    /// Bytes behind the description, the stated length and the row number are not
+    /// looked at; a case whose description is cut is none (`next_case`).
+    fn written(&self) -> Result<Vec<u8>, Refusal> {
+        let (buffer, room) = (&self.buffer, self.room as usize);
+        match self.operation {
+            Operation::Write => {
+                write_file(&Description::from_bytes(buffer).expect("the case is whole"), room)
+            }
+            _ => write_body(&BodyDescription::from_bytes(buffer).expect("the case is whole"), room),
+        }
+    }
+
     /// The answer's text without the line on lent memory, or the refusal.
     pub fn answer(&self) -> Result<String, Refusal> {
         let Case { stated, row, .. } = *self;
@@ -118,12 +172,21 @@ impl Case {
                 play(&self.buffer, stated, row, room).map(|played| played_text(&played))
             }
             Operation::Flatten => {
-                flatten(&self.buffer, stated, row, room).map(|plain| plain_text(&plain))
+                flatten(&self.buffer, stated, row, room).map(|plain| bytes_text(&plain))
             }
             Operation::Pitch => {
                 pitch(stated as u8, row as u8).map(|pitch| format!("pitch {pitch}\n"))
             }
             Operation::Listing => listing(&self.buffer),
+            Operation::Items => {
+                items(&self.buffer, stated, row, room).map(|items| items_text(&items))
+            }
+            Operation::Entries => {
+                entries(&self.buffer, stated, row, room).map(|entries| entries_text(&entries))
+            }
+            Operation::Write | Operation::WriteBody => {
+                self.written().map(|bytes| bytes_text(&bytes))
+            }
         }
     }
 
@@ -161,12 +224,36 @@ fn played_text(played: &Played) -> String {
     text
 }
 
-fn plain_text(plain: &[u8]) -> String {
-    let mut text = format!("bytes {}\n", plain.len());
-    for byte in plain {
+fn bytes_text(bytes: &[u8]) -> String {
+    let mut text = format!("bytes {}\n", bytes.len());
+    add_hex(&mut text, bytes);
+    text
+}
+
+/// A line of bytes, empty where there are none.
+fn add_hex(text: &mut String, bytes: &[u8]) {
+    for byte in bytes {
         let _ = write!(text, "{byte:02x}");
     }
     text.push('\n');
+}
+
+fn items_text(items: &[WordItem]) -> String {
+    let mut text = format!("rows {}\n", items.len());
+    for item in items {
+        let _ = writeln!(text, "{} {:08x}", item.duration, item.word.0);
+    }
+    text
+}
+
+fn entries_text(entries: &[SeekEntry]) -> String {
+    let mut text = format!("rows {}\n", entries.len());
+    for SeekEntry { kind, letter, from, to, letters } in entries {
+        let _ = writeln!(text, "{kind} {letter:02x} {from} {to}");
+        if *kind == SeekEntry::LIST {
+            add_hex(&mut text, letters);
+        }
+    }
     text
 }
 

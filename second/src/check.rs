@@ -7,7 +7,7 @@ use crate::plain::{plain_length, write_plain};
 use crate::play::{play_track, word_of, Performance, Section};
 use crate::track::Track;
 
-fn hold(holds: bool, what: &str) -> Result<(), String> {
+pub fn hold(holds: bool, what: &str) -> Result<(), String> {
     match holds {
         true => Ok(()),
         false => Err(String::from(what)),

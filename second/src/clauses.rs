@@ -9,10 +9,31 @@ use std::collections::BTreeMap;
 
 /// Whether a case of the operation can be refused by the clause.
 pub fn applies(clause: Clause, operation: Operation) -> bool {
+    match Clause::WRITING.contains(&clause) {
+        true => applies_to_writing(clause, operation),
+        false => applies_to_reading(clause, operation),
+    }
+}
+
+fn applies_to_writing(clause: Clause, operation: Operation) -> bool {
     match clause {
-        Clause::LengthPastBuffer => !matches!(operation, Operation::Listing | Operation::Pitch),
+        Clause::WordKindNotInPcm
+        | Clause::WordWaveZero
+        | Clause::WordWaveOver62
+        | Clause::BodyOverLargest
+        | Clause::BodyOverRoom => operation == Operation::WriteBody,
+        _ if matches!(clause.number(), 11 | 21..=23) => {
+            matches!(operation, Operation::Write | Operation::WriteBody)
+        }
+        _ => operation == Operation::Write,
+    }
+}
+
+fn applies_to_reading(clause: Clause, operation: Operation) -> bool {
+    match clause {
+        Clause::LengthPastBuffer => operation.reads_file() && operation != Operation::Listing,
         Clause::RowOfSomethingElse | Clause::RowPastLast => {
-            matches!(operation, Operation::Play | Operation::Flatten)
+            operation.reads_file() && !matches!(operation, Operation::Read | Operation::Listing)
         }
         Clause::NoReadableTrack => operation == Operation::Listing,
         Clause::OrderListMissing => {
@@ -20,9 +41,11 @@ pub fn applies(clause: Clause, operation: Operation) -> bool {
         }
         Clause::ReadTableShort => matches!(operation, Operation::Read | Operation::Listing),
         Clause::PlayTableShort => matches!(operation, Operation::Play | Operation::Listing),
+        Clause::ItemTableShort => operation == Operation::Items,
+        Clause::EntryTableShort => operation == Operation::Entries,
         Clause::PlainOverLargest | Clause::PlainOverBuffer => operation == Operation::Flatten,
         Clause::PitchNotNote | Clause::PitchShiftReserved => operation == Operation::Pitch,
-        _ => operation != Operation::Pitch,
+        _ => operation.reads_file(),
     }
 }
 

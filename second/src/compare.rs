@@ -2,9 +2,12 @@
 
 use crate::case::{next_case, text_of, Case, Next, Operation, BAD_CASE, KEPT, SPOILT};
 use crate::check::plain_plays_the_same;
+use crate::check_writer::{body_reads_back, file_reads_back};
+use crate::description::{BodyDescription, Description};
 use crate::file::open;
 use crate::plain::flatten;
 use crate::progress::progress;
+use crate::write::{write_body, write_file};
 use std::collections::BTreeMap;
 
 /// The first case on which the two differ.
@@ -75,20 +78,45 @@ fn next_answer<'a>(answers: &mut &'a str) -> &'a str {
     answer
 }
 
-/// An agreed plain form must also play what its track plays.
+/// What is agreed must also hold together with what it was made from.
 fn checked(case: &Case, agreed: String) -> String {
-    if case.operation != Operation::Flatten {
-        return agreed;
+    let held = match case.operation {
+        Operation::Flatten => plain_holds(case),
+        Operation::Write => file_holds(case),
+        Operation::WriteBody => body_holds(case),
+        _ => Ok(()),
+    };
+    match held {
+        Ok(()) => agreed,
+        Err(what) => format!("both agree, but {what}\n"),
     }
+}
+
+/// A plain form plays what its track plays.
+fn plain_holds(case: &Case) -> Result<(), String> {
     let Ok(plain) = flatten(&case.buffer, case.stated, case.row, case.room as usize) else {
-        return agreed;
+        return Ok(());
     };
     let melody = open(&case.buffer, case.stated);
     let track = melody.as_ref().ok().and_then(|melody| melody.track(case.row).ok());
-    let Some(track) = track else { return agreed };
-    match plain_plays_the_same(&case.buffer, track, &plain) {
-        Ok(()) => agreed,
-        Err(what) => format!("both agree, but {what}\n"),
+    track.map_or(Ok(()), |track| plain_plays_the_same(&case.buffer, track, &plain))
+}
+
+/// A written file reads back.
+fn file_holds(case: &Case) -> Result<(), String> {
+    let Some(description) = Description::from_bytes(&case.buffer) else { return Ok(()) };
+    match write_file(&description, case.room as usize) {
+        Ok(file) => file_reads_back(&description, &file),
+        Err(_) => Ok(()),
+    }
+}
+
+/// A written body reads back.
+fn body_holds(case: &Case) -> Result<(), String> {
+    let Some(description) = BodyDescription::from_bytes(&case.buffer) else { return Ok(()) };
+    match write_body(&description, case.room as usize) {
+        Ok(body) => body_reads_back(&description, &body),
+        Err(_) => Ok(()),
     }
 }
 

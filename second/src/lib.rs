@@ -1,15 +1,21 @@
-//! A second reading of the paper: files, playing, the plain form, pitch and
-//! the listing, with a generator of cases to hold against the main program.
+//! A second reading of the paper: files, playing, the plain form, pitch, the
+//! listing and the writer, with a generator of cases to hold against the main
+//! program.
 
 pub mod case;
 pub mod check;
 pub mod check_code;
+pub mod check_writer;
 pub mod chunk;
 pub mod clauses;
 pub mod compare;
+pub mod description;
 pub mod file;
+pub mod frame;
 pub mod generate;
+pub mod give;
 pub mod item;
+pub mod layout;
 pub mod listing;
 pub mod numbers;
 pub mod pitch;
@@ -25,3 +31,6 @@ pub mod time_base;
 pub mod track;
 pub mod tune;
 pub mod tunes;
+pub mod word;
+pub mod write;
+pub mod write_seek;

@@ -13,7 +13,8 @@ const USAGE: &str = "usage: second list FILE | tune | tunes FOLDER | answer | \
 generate OPERATIONS COUNT SEED | generate-all-pitches | \
 generate-many-chunks ROWS | generate-faults OPERATIONS EACH SEED | \
 faults OPERATIONS EACH SEED | \
-compare CASES ANSWERS [DIFFERENCE] | clauses OPERATIONS COUNT SEED | soak COUNT SEED";
+compare CASES ANSWERS [DIFFERENCE] | clauses OPERATIONS COUNT SEED | soak COUNT SEED; \
+OPERATIONS are letters out of rpftlwmsb";
 
 type Outcome = Result<ExitCode, String>;
 
@@ -50,7 +51,7 @@ fn operations(letters: &str) -> Result<Vec<Operation>, String> {
     let operations: Option<Vec<Operation>> = letters.bytes().map(Operation::from_letter).collect();
     match operations {
         Some(operations) if !operations.is_empty() => Ok(operations),
-        _ => Err(format!("operations are letters out of rpftl; {USAGE}")),
+        _ => Err(format!("{letters} are no operations; {USAGE}")),
     }
 }
 
@@ -114,15 +115,24 @@ fn write_cases(letters: &str, count: &str, seed: &str) -> Outcome {
     put_cases((0..count).map(|index| generate::case(&operations, seed, index)))
 }
 
+/// Operations that read the files in which the table's faults stand.
+fn file_operations(letters: &str) -> Result<Vec<Operation>, String> {
+    let operations = operations(letters)?;
+    match operations.iter().all(|operation| operation.reads_file()) {
+        true => Ok(operations),
+        false => Err(format!("faults stand in files that are read; {USAGE}")),
+    }
+}
+
 /// Each cell of the table of faults that often.
 fn write_faults(letters: &str, each: &str, seed: &str) -> Outcome {
-    let (operations, each, seed) = (operations(letters)?, number(each)?, number(seed)?);
+    let (operations, each, seed) = (file_operations(letters)?, number(each)?, number(seed)?);
     let count = each * cells().len() as u64;
     put_cases((0..count).map(|index| fault_case(&operations, seed, index).0))
 }
 
 fn count_faults(letters: &str, each: &str, seed: &str) -> Outcome {
-    let (operations, each, seed) = (operations(letters)?, number(each)?, number(seed)?);
+    let (operations, each, seed) = (file_operations(letters)?, number(each)?, number(seed)?);
     let counts = clauses::count_faults(&operations, each, seed);
     put(clauses::fault_table(&counts).as_bytes())?;
     match counts.values().sum::<u64>() == each * cells().len() as u64 {

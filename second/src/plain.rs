@@ -97,7 +97,8 @@ fn write_long_rests(gap: u64, plain: &mut Vec<u8>) -> u64 {
     left
 }
 
-fn write_duration(duration: u64, plain: &mut Vec<u8>) {
+/// Writes a duration or gate time of at most 16,511.
+pub fn write_duration(duration: u64, plain: &mut Vec<u8>) {
     match duration {
         0..=127 => plain.push(duration as u8),
         _ => plain.extend([128 + ((duration - 128) / 128) as u8, ((duration - 128) % 128) as u8]),

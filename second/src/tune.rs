@@ -1,6 +1,6 @@
 //! The paper's worked tune as a whole file.
 
-use crate::check_code::check_code;
+use crate::frame::{chunk, whole_file};
 
 pub const BODY: [u8; 19] = [
     0x00, 0x00, 0x30, 0x05, 0x0A, 0x29, 0x14, 0x81, 0x02, 0x2C, 0x80, 0x00, 0x20, 0xFF, 0x00, 0x00,
@@ -11,20 +11,6 @@ const SEEK: &[u8] = b"PA:\0\0\0\0\0\0\0\x07,PS:\0\0\0\x07\0\0\0\x0F,SL:ASS";
 
 /// Phrases, D and G both code 02, no channel status.
 const FIXED: [u8; 6] = [0, 1, 2, 2, 0, 0];
-
-pub fn chunk(id: &[u8; 4], body: &[u8]) -> Vec<u8> {
-    let size = (body.len() as u32).to_be_bytes();
-    [&id[..], &size[..], body].concat()
-}
-
-/// A file of that chunk list, with the right check code.
-pub fn whole_file(list: &[u8]) -> Vec<u8> {
-    let mut file = chunk(b"MMMD", &[list, &[0, 0]].concat());
-    let before = file.len() - 2;
-    let code = check_code(&file[..before]).to_be_bytes();
-    file[before..].copy_from_slice(&code);
-    file
-}
 
 pub fn worked_tune() -> Vec<u8> {
     let seek = chunk(b"MspI", SEEK);

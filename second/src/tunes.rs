@@ -1,6 +1,7 @@
 //! The tunes of the folder tunes/: small files, each for one thing that a listing can show. Melodies are public domain.
 
-use crate::tune::{chunk, whole_file, worked_tune};
+use crate::frame::{chunk, whole_file};
+use crate::tune::worked_tune;
 
 /// A whole file and its name.
 pub struct Tune {

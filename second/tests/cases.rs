@@ -5,8 +5,20 @@ use second::compare::compare;
 use second::generate;
 use second::tune::worked_tune;
 
-const ALL: [Operation; 5] =
-    [Operation::Read, Operation::Play, Operation::Flatten, Operation::Pitch, Operation::Listing];
+const ALL: [Operation; 9] = [
+    Operation::Read,
+    Operation::Play,
+    Operation::Flatten,
+    Operation::Pitch,
+    Operation::Listing,
+    Operation::Write,
+    Operation::Items,
+    Operation::Entries,
+    Operation::WriteBody,
+];
+
+/// Eighty of each operation.
+const CASES: u64 = 720;
 
 fn tune_case(operation: Operation) -> Case {
     Case { operation, stated: 102, row: 2, room: 70_000, buffer: worked_tune() }
@@ -19,7 +31,7 @@ fn answers(cases: &[u8]) -> String {
 }
 
 fn stream() -> Vec<u8> {
-    (0..400).flat_map(|number| generate::case(&ALL, 8, number).bytes()).collect()
+    (0..CASES).flat_map(|number| generate::case(&ALL, 8, number).bytes()).collect()
 }
 
 #[test]
@@ -44,7 +56,7 @@ fn answers_to_the_tune() {
 fn cases_come_back_from_their_bytes() {
     let bytes = stream();
     let mut rest = &bytes[..];
-    for number in 0..400 {
+    for number in 0..CASES {
         assert_eq!(next_case(&mut rest), Next::Case(generate::case(&ALL, 8, number)));
     }
     assert_eq!(next_case(&mut rest), Next::End);
@@ -79,9 +91,9 @@ fn own_answers_agree() {
     let cases = stream();
     let agreement = compare(&cases, &answers(&cases)).unwrap();
     assert!(agreement.operations.values().all(|count| *count == 80));
-    assert_eq!(agreement.refusals.values().sum::<u64>(), 400);
+    assert_eq!(agreement.refusals.values().sum::<u64>(), CASES);
     assert!(agreement.refusals.contains_key(&0) && agreement.refusals.contains_key(&19));
-    assert!(agreement.text().starts_with("400 cases agree\n"));
+    assert!(agreement.text().starts_with("720 cases agree\n"));
 }
 
 #[test]
@@ -100,13 +112,13 @@ fn differences_are_found() {
     other.insert_str(ends[30], "0 0 0 0\n");
     assert_eq!((found(&other).number, found(&other).case), (30, case_of(30)));
 
-    let cut = &text[..ends[399]];
-    assert_eq!((found(cut).number, found(cut).case), (399, case_of(399)));
+    let cut = &text[..ends[719]];
+    assert_eq!((found(cut).number, found(cut).case), (719, case_of(719)));
     let few = &text[..ends[9] + KEPT.len()];
     assert_eq!((found(few).number, found(few).other), (10, String::new()));
 
     let long = format!("{text}bad case\n");
-    assert_eq!((found(&long).number, found(&long).case), (400, None));
+    assert_eq!((found(&long).number, found(&long).case), (CASES, None));
     assert_eq!(found(&long).other, "bad case\n");
 }
 

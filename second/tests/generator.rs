@@ -84,6 +84,18 @@ fn every_clause_of_pitch_comes_up() {
 }
 
 #[test]
+fn every_clause_of_the_writer_comes_up() {
+    every_clause_comes_up(Operation::Write);
+    every_clause_comes_up(Operation::WriteBody);
+}
+
+#[test]
+fn every_clause_of_items_and_entries_comes_up() {
+    every_clause_comes_up(Operation::Items);
+    every_clause_comes_up(Operation::Entries);
+}
+
+#[test]
 fn missing_clauses_are_told() {
     let operations = [Operation::Flatten];
     let counts = count(&operations, 20, 3);
@@ -97,6 +109,9 @@ fn answers_hold_together() {
     assert!(tally.accepted > 1_000);
     assert!(tally.played > 1_000);
     assert!(tally.flattened > 1_000);
+    assert!(tally.written > 200);
+    assert!(tally.bodies > 200);
+    assert!(tally.again > 750 + tally.written);
 }
 
 /// The only track of the large file in that slot, by its number.

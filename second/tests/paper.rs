@@ -262,7 +262,7 @@ fn largest_file() {
     let file = |length: usize| {
         let track = score_track(STREAM, &[(b"Mtsq", &BODY)]);
         let filling = length - 10 - 13 - track.len() - 8;
-        file_of(&[track, second::tune::chunk(b"OPDA", &vec![0; filling])])
+        file_of(&[track, second::frame::chunk(b"OPDA", &vec![0; filling])])
     };
     assert_eq!(file(65_536).len(), 65_536);
     assert_eq!(refusal(&file(65_536)), (0, 0));

@@ -3,10 +3,10 @@
 mod shared;
 
 use second::file::{open, read};
+use second::frame::{chunk, whole_file};
 use second::listing::listing;
 use second::plain::flatten;
 use second::play::play;
-use second::tune::{chunk, whole_file};
 use shared::*;
 use std::time::{Duration, Instant};
 

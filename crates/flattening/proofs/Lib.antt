@@ -1,7 +1,6 @@
 -- The laws that the functions' proofs cite, each file resting on those above it.
 pub mod Joining
 pub mod Waiting
-pub mod Fitting
 pub mod Telling
 pub mod Shapes
 pub mod WrittenAgain

@@ -22,11 +22,11 @@ use Rattle.model.specs.declared.Shape.{Shape}
 use Rattle.model.specs.declared.Span.{Span}
 use Rattle.writing.specs.Parts.{eventSize}
 use Rattle.writing.proofs.Contents.{event-length}
+use Rattle.inverse.proofs.Fitting.{read-fits}
 use Rattle.items.proofs.Addresses.{timed-nears, mark-nears}
 use Rattle.sections.specs.Spans.{spanRows, Playable}
 use Rattle.sections.proofs.Ahead.{Ahead, Onward, next-rows, message-next, nop-next, mark-next, playable-begins, span-begins, in-time, in-place, none-ahead, timed-late, timed-onward, mark-onward, never-refused}
 use Rattle.flattening.specs.Parts.{gapBytes, spanShape, silence, joined, shaped}
-use Rattle.flattening.proofs.Fitting.{read-fits}
 use Rattle.flattening.proofs.Shapes.{outlined, outline-shapes}
 
 -- one message more

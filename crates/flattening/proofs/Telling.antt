@@ -20,12 +20,12 @@ use Rattle.model.specs.declared.ReadItem.{ReadItem}
 use Rattle.model.specs.declared.ReadItem.the-variants.{Timed, EndMark, Refused}
 use Rattle.model.specs.declared.Span.{Span}
 use Rattle.model.proofs.Stores.{sets-append}
+use Rattle.inverse.proofs.Fitting.{read-fits}
 use Rattle.items.proofs.Addresses.{timed-nears, mark-nears}
 use Rattle.sections.specs.Spans.{spanRows, Playable}
 use Rattle.sections.proofs.Ahead.{Ahead, Onward, next-rows, message-next, nop-next, mark-next, playable-begins, span-begins, none-ahead, timed-late, timed-onward, mark-onward, never-refused}
 use Rattle.flattening.specs.Parts.{plainPart, lastStep, told, partBytes, partLast, messageBytes}
 use Rattle.flattening.proofs.Joining.{part-first}
-use Rattle.flattening.proofs.Fitting.{read-fits}
 
 -- one message: the waits, and its item after them
 module _ (s : List ℕ) (gap : ℕ) (event : Event) where

@@ -24,7 +24,7 @@ Items = List (Placed (Item Event))
 
 module _ (voice : Voice) (s : List ℕ) where
   -- one item, as the walk through the body meets it
-  meets : (at : ℕ) (item : Item Content) → Reads voice s at item
+  pub meets : (at : ℕ) (item : Item Content) → Reads voice s at item
       → (placed : Placed (Item Event)) × (itemStep voice s at ≡ met placed (at + length (itemBytes handyPhone item))) × (contentIn s (placed .what) ≡ item)
   unfolding itemStep itemMet contentIn
   meets at (timed duration content) r =

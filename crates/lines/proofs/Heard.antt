@@ -13,7 +13,6 @@ use Rattle.model.specs.Words.{if_then_else_, _<?_, _≤?_, Checked, Checked.fin
 use Rattle.model.specs.Bytes.{_!_}
 use Rattle.model.specs.Play.{At, Tune}
 use Rattle.model.specs.Word.{wordOf, InWord}
-use Rattle.model.specs.Writing.{kindIn, eventIn, eventOfWord}
 use Rattle.model.specs.Order.{tuneIn}
 use Rattle.model.specs.Answer.{writtenOver, memoryAfter, playOf, playAnswer, stepsTable, wordsTable}
 use Rattle.model.specs.Listing.{linesOf}
@@ -28,26 +27,19 @@ use Rattle.items.proofs.Standing.{body-stands}
 use Rattle.sections.proofs.Small.{lasting-short}
 use Rattle.sections.proofs.Throughout.{OfMessages, of-tune, body-in-word}
 use Rattle.sections.proofs.Lengths.{tune-short}
-use Rattle.reading.proofs.Accepted.{not-refused}
+use Rattle.model.proofs.Outcomes.{not-refused}
 use Rattle.plain.proofs.NamedTracks.{Readable, named-reads}
 use Rattle.playing.proofs.Theorems.{PlayMade, play-made, steps-rise}
 use Rattle.lines.specs.Fields.{messagesIn, rowsText, tuneText, tuneListed, playListed, Early}
 use Rattle.lines.proofs.Rowing.{pair-fields}
 
 -- WORDS say their events
-word-says : (event : Event) → InWord event → eventIn (wordOf event) ≡ event
-unfolding eventOfWord if_then_else_
-word-says event h =
-    by-test (kindIn (wordOf event) ≤? 14)
-    (λ t. let both : some (eventIn (wordOf event)) ≡ some event = sym (if-true _ _ _ t) ∙ word-back event h in cc)
-    (λ t. let both = sym (if-false _ _ _ t) ∙ word-back event h in let z : _≡_ {A = ℕ} 0 1 = cc in absurd (omega arith))
-
 rows-say : (messages : List (At Event)) (steps words : List ℕ) → OfMessages InWord messages
     → messagesIn (length messages) (map (λ at. at .step) messages ++ steps) (map (λ at. wordOf (at .event)) messages ++ words) ≡ messages
 unfolding messagesIn
 rows-say [] steps words all = refl
 rows-say (at ∷ messages) steps words all =
-    ap₂ (λ (event : Event) (rest : List (At Event)). record { step = at .step; event = event } ∷ rest) (word-says (at .event) (all .1))
+    ap₂ (λ (event : Event) (rest : List (At Event)). record { step = at .step; event = event } ∷ rest) (word-back (at .event) (all .1))
     (rows-say messages steps words (all .2))
 
 -- STEPS are not past the end

@@ -51,12 +51,12 @@ unfolding trackNamed rowPerformed named _>>=_ isFine
 row-unnamed (fine file) row ok e = rw e
 row-unnamed (refused n p) row ok e = let z : _≡_ {A = ℕ} 0 1 = cc in absurd (omega arith)
 
-opens-some : (s : List ℕ) (named-track : Option Track) (bodies : Bodies) → Opens s named-track (opened.At bodies)
+pub opens-some : (s : List ℕ) (named-track : Option Track) (bodies : Bodies) → Opens s named-track (opened.At bodies)
     → (track : Track) × (named-track ≡ some track) × Open s bodies track
 opens-some s none bodies o = absurd o
 opens-some s (some track) bodies o = (track, refl, o)
 
-opens-none : (s : List ℕ) (named-track : Option Track) → Opens s named-track opened.Nowhere → named-track ≡ none
+pub opens-none : (s : List ℕ) (named-track : Option Track) → Opens s named-track opened.Nowhere → named-track ≡ none
 opens-none s none o = refl
 opens-none s (some track) o = absurd o
 

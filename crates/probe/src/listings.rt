@@ -1,6 +1,6 @@
 // `l`: the listing of a buffer, and whether it kept the rest of its room.
-use super::plain_forms::BLANK;
-use super::plain_forms::is_room_kept;
+use super::rooms::BLANK;
+use super::rooms::is_room_kept;
 use super::rows::put_kept;
 use model::Listed;
 use text::put;

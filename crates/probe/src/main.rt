@@ -1,57 +1,44 @@
 // The probe: takes a row of cases on standard input and writes the answer to each, as text, on standard output, with a line that says
 // whether lent memory outside the answer was kept. A case is one byte for the operation, four numbers of four bytes (stated length, row
-// number, room, length of the buffer), and the buffer. It answers `r` (read), `p` (play), `f` (flatten), `l` (listing) and `t` (pitch). A case that is
-// cut, too large or of an unknown operation ends the run with the line `bad case`.
+// number, room, length of the buffer), and the buffer. It answers `r` (read), `p` (play), `f` (flatten), `l` (listing), `t` (pitch), `w` (write a
+// file), `b` (write a body), `m` (items of a track) and `s` (its seek entries). A case that is cut, too large or of an unknown operation, or whose
+// description is cut, ends the run with the line `bad case`.
+mod cases;
+mod descriptions;
 mod listings;
 mod messages;
+mod places;
 mod plain_forms;
+mod rooms;
 mod rows;
+mod seek_entries;
+mod tables;
+mod track_items;
+mod written;
 
+use cases::Case;
+use cases::is_good;
+use cases::next_case;
+use descriptions::Laid;
+use descriptions::cut;
+use descriptions::lay_body;
+use descriptions::lay_file;
 use listings::answer_list;
 use messages::answer_play;
 use model::Pitch;
+use places::CUT;
+use places::byte_in;
 use plain_forms::answer_flatten;
 use rows::answer_read;
+use seek_entries::answer_entries;
 use text::flush;
 use text::put;
 use text::put_byte;
 use text::put_pitch;
 use text::put_refusal;
-
-const LARGEST: u32 = 70000;
-
-// The numbers of a case's header, of which so many bytes were there.
-struct Case {
-    bytes: usize,
-    operation: u8,
-    stated: u32,
-    row: u32,
-    room: u32,
-    size: u32,
-}
-
-fn next_case() -> Case {
-    let mut header = [0u8; 17];
-    let bytes = io::read_full(0, &mut header);
-    Case {
-        bytes,
-        operation: header[0],
-        stated: number_in(&header, 1),
-        row: number_in(&header, 5),
-        room: number_in(&header, 9),
-        size: number_in(&header, 13),
-    }
-}
-
-fn number_in(bytes: &[u8], at: usize) -> u32 {
-    if bytes.len() < 4 {
-        return 0;
-    }
-    if bytes.len() - 4 < at {
-        return 0;
-    }
-    numbers::number_4(bytes, at)
-}
+use track_items::answer_items;
+use written::answer_write;
+use written::answer_write_body;
 
 fn answer_pitch(page: &mut [u8], used: usize, byte: u32, shift: u32) -> usize {
     match pitch::pitch_of((byte % 256) as u8, (shift % 256) as u8) {
@@ -62,43 +49,6 @@ fn answer_pitch(page: &mut [u8], used: usize, byte: u32, shift: u32) -> usize {
         }
         Pitch::Refused { number, place } => put_refusal(page, used, number, place),
     }
-}
-
-fn is_known(operation: u8) -> bool {
-    if operation == b'r' {
-        return true;
-    }
-    if operation == b'p' {
-        return true;
-    }
-    if operation == b'f' {
-        return true;
-    }
-    if operation == b'l' {
-        return true;
-    }
-    operation == b't'
-}
-
-// Whether the case is of an operation that is answered, within bounds and whole; its buffer is read.
-fn is_good(case: Case, buffer: &mut [u8]) -> bool {
-    if case.bytes < 17 {
-        return false;
-    }
-    if !is_known(case.operation) {
-        return false;
-    }
-    if LARGEST < case.room {
-        return false;
-    }
-    if LARGEST < case.size {
-        return false;
-    }
-    let size = case.size as usize;
-    if buffer.len() < size {
-        return false;
-    }
-    io::read_full(0, &mut buffer[..size]) == size
 }
 
 // Of the buffer and of each table a case lends as much as it states.
@@ -177,8 +127,132 @@ fn lend_to_list(page: &mut [u8], used: usize, case: Case, buffer: &[u8]) -> usiz
     answer_list(page, used, &buffer[..size])
 }
 
-// The answer to a good case.
-fn answer(
+fn lend_to_items(
+    page: &mut [u8],
+    used: usize,
+    case: Case,
+    buffer: &[u8],
+    table: &mut [u32],
+) -> usize {
+    let size = case.size as usize;
+    let numbers = case.room as usize * 2;
+    if buffer.len() < size || table.len() < numbers {
+        return used;
+    }
+    answer_items(
+        page,
+        used,
+        &buffer[..size],
+        case.stated,
+        case.row,
+        &mut table[..numbers],
+    )
+}
+
+fn lend_to_entries(
+    page: &mut [u8],
+    used: usize,
+    case: Case,
+    buffer: &[u8],
+    table: &mut [u32],
+    letters: &mut [u8],
+) -> usize {
+    let size = case.size as usize;
+    let numbers = case.room as usize * 4;
+    if buffer.len() < size || table.len() < numbers || letters.len() < 65536 {
+        return used;
+    }
+    answer_entries(
+        page,
+        used,
+        &buffer[..size],
+        case.stated,
+        case.row,
+        &mut table[..numbers],
+        &mut letters[..65536],
+    )
+}
+
+// To the writer a case lends of the room as much as it states, and of the tables what is laid out.
+fn lend_to_write(
+    page: &mut [u8],
+    used: usize,
+    case: Case,
+    laid: Laid,
+    table: &[u32],
+    given: &[u8],
+    bytes: &mut [u8],
+) -> usize {
+    let room = case.room as usize;
+    let numbers = laid.numbers;
+    let filled = laid.bytes;
+    if table.len() < numbers || given.len() < filled || bytes.len() < room {
+        return used;
+    }
+    answer_write(
+        page,
+        used,
+        &table[..numbers],
+        &given[..filled],
+        &mut bytes[..room],
+    )
+}
+
+fn lend_to_write_body(
+    page: &mut [u8],
+    used: usize,
+    case: Case,
+    laid: Laid,
+    buffer: &[u8],
+    table: &[u32],
+    given: &[u8],
+    bytes: &mut [u8],
+) -> usize {
+    let room = case.room as usize;
+    let numbers = laid.numbers;
+    let filled = laid.bytes;
+    if table.len() < numbers || given.len() < filled || bytes.len() < room {
+        return used;
+    }
+    answer_write_body(
+        page,
+        used,
+        byte_in(buffer, 0),
+        &given[..filled],
+        &table[..numbers],
+        &mut bytes[..room],
+    )
+}
+
+// What a case's description is laid out to, `CUT` where it is cut; of an operation without one nothing is laid out.
+fn lay_out(case: Case, buffer: &[u8], table: &mut [u32], given: &mut [u8]) -> Laid {
+    let size = case.size as usize;
+    if buffer.len() < size {
+        return cut();
+    }
+    if case.operation == b'w' {
+        return lay_file(&buffer[..size], table, given);
+    }
+    if case.operation == b'b' {
+        return lay_body(&buffer[..size], table, given);
+    }
+    Laid {
+        at: 0,
+        numbers: 0,
+        bytes: 0,
+    }
+}
+
+// Reads the buffer of a case and lays out what it describes; `CUT` for a bad case.
+fn prepare(case: Case, buffer: &mut [u8], table: &mut [u32], given: &mut [u8]) -> Laid {
+    if !is_good(case, buffer) {
+        return cut();
+    }
+    lay_out(case, buffer, table, given)
+}
+
+// The answer to a good case of an operation on files.
+fn answer_on_file(
     page: &mut [u8],
     used: usize,
     case: Case,
@@ -203,31 +277,101 @@ fn answer(
     put(page, used, b"-- kept\n")
 }
 
-fn run(page: &mut [u8], buffer: &mut [u8], table: &mut [u32], steps: &mut [u64], bytes: &mut [u8]) {
+// The answer to a good case.
+fn answer(
+    page: &mut [u8],
+    used: usize,
+    case: Case,
+    laid: Laid,
+    buffer: &[u8],
+    table: &mut [u32],
+    steps: &mut [u64],
+    bytes: &mut [u8],
+    given: &mut [u8],
+) -> usize {
+    if case.operation == b'w' {
+        return lend_to_write(page, used, case, laid, table, given, bytes);
+    }
+    if case.operation == b'b' {
+        return lend_to_write_body(page, used, case, laid, buffer, table, given, bytes);
+    }
+    if case.operation == b'm' {
+        return lend_to_items(page, used, case, buffer, table);
+    }
+    if case.operation == b's' {
+        return lend_to_entries(page, used, case, buffer, table, given);
+    }
+    answer_on_file(page, used, case, buffer, table, steps, bytes)
+}
+
+// How much of the page is used after a turn, and whether that was the last.
+struct Turn {
+    used: usize,
+    last: bool,
+}
+
+// The answer to the next case. There is none after the last case, nor after a bad one.
+fn answer_next(
+    page: &mut [u8],
+    used: usize,
+    buffer: &mut [u8],
+    table: &mut [u32],
+    steps: &mut [u64],
+    bytes: &mut [u8],
+    given: &mut [u8],
+) -> Turn {
+    let case = next_case();
+    if case.bytes == 0 {
+        return Turn { used, last: true };
+    }
+    let laid = prepare(case, buffer, table, given);
+    if laid.at == CUT {
+        return Turn {
+            used: put(page, used, b"bad case\n"),
+            last: true,
+        };
+    }
+    Turn {
+        used: answer(page, used, case, laid, buffer, table, steps, bytes, given),
+        last: false,
+    }
+}
+
+fn run(
+    page: &mut [u8],
+    buffer: &mut [u8],
+    table: &mut [u32],
+    steps: &mut [u64],
+    bytes: &mut [u8],
+    given: &mut [u8],
+) {
     let mut used: usize = 0;
     let mut turns: u32 = 0;
     while turns < 1_000_000_000 {
         turns += 1;
-        let case = next_case();
-        if case.bytes == 0 {
+        let turn = answer_next(page, used, buffer, table, steps, bytes, given);
+        used = turn.used;
+        if turn.last {
             flush(page, used);
             return;
         }
-        if !is_good(case, buffer) {
-            used = put(page, used, b"bad case\n");
-            flush(page, used);
-            return;
-        }
-        used = answer(page, used, case, buffer, table, steps, bytes);
     }
     flush(page, used);
 }
 
 fn main() {
     let mut page = [0u8; 65536];
-    let mut buffer = [0u8; 70000];
+    let mut buffer = [0u8; 300000];
     let mut table = [0u32; 280000];
     let mut steps = [0u64; 70000];
     let mut bytes = [0u8; 70000];
-    run(&mut page, &mut buffer, &mut table, &mut steps, &mut bytes);
+    let mut given = [0u8; 300000];
+    run(
+        &mut page,
+        &mut buffer,
+        &mut table,
+        &mut steps,
+        &mut bytes,
+        &mut given,
+    );
 }

@@ -32,7 +32,7 @@ fn is_kept_from(steps: &[u64], row: usize) -> bool {
     true
 }
 
-fn put_message(page: &mut [u8], used: usize, step: u64, word: u32) -> usize {
+pub fn put_message(page: &mut [u8], used: usize, step: u64, word: u32) -> usize {
     let used = put_decimal(page, used, step);
     let used = put_byte(page, used, b' ');
     let used = put_hex(page, used, word as u64, 8);

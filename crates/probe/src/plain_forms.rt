@@ -1,60 +1,8 @@
 // `f`: what flattening answers, the bytes of the plain form, and whether it kept the rest of the room.
-use super::rows::put_kept;
+use super::rooms::blank_room;
+use super::rooms::put_filled;
+use super::rooms::put_unfilled;
 use model::FlattenAnswer;
-use text::put;
-use text::put_byte;
-use text::put_decimal;
-use text::put_hex;
-use text::put_refusal;
-
-// What the room holds before it is lent.
-pub const BLANK: u8 = 0xA5;
-
-fn blank_room(room: &mut [u8]) {
-    let mut i: usize = 0;
-    while i < room.len() {
-        room[i] = BLANK;
-        i += 1;
-    }
-}
-
-// Whether the room is as it was from a place on.
-pub fn is_room_kept(room: &[u8], place: usize) -> bool {
-    let mut i = place;
-    while i < room.len() {
-        if room[i] != BLANK {
-            return false;
-        }
-        i += 1;
-    }
-    true
-}
-
-fn put_hex_byte(page: &mut [u8], used: usize, byte: u8) -> usize {
-    put_hex(page, used, byte as u64, 2)
-}
-
-fn put_bytes(page: &mut [u8], used: usize, room: &[u8], count: usize) -> usize {
-    let mut now = used;
-    let mut i: usize = 0;
-    while i < count {
-        if room.len() <= i {
-            return now;
-        }
-        now = put_hex_byte(page, now, room[i]);
-        i += 1;
-    }
-    now
-}
-
-fn put_flattened(page: &mut [u8], used: usize, room: &[u8], length: usize) -> usize {
-    let used = put(page, used, b"bytes ");
-    let used = put_decimal(page, used, length as u64);
-    let used = put_byte(page, used, b'\n');
-    let used = put_bytes(page, used, room, length);
-    let used = put_byte(page, used, b'\n');
-    put_kept(page, used, is_room_kept(room, length))
-}
 
 pub fn answer_flatten(
     page: &mut [u8],
@@ -66,10 +14,7 @@ pub fn answer_flatten(
 ) -> usize {
     blank_room(room);
     match flattening::flatten(buffer, stated as usize, row as usize, room) {
-        FlattenAnswer::Bytes { length } => put_flattened(page, used, room, length),
-        FlattenAnswer::Refused { number, place } => {
-            let used = put_refusal(page, used, number, place);
-            put_kept(page, used, is_room_kept(room, 0))
-        }
+        FlattenAnswer::Bytes { length } => put_filled(page, used, room, length),
+        FlattenAnswer::Refused { number, place } => put_unfilled(page, used, room, number, place),
     }
 }

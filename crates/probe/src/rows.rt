@@ -76,7 +76,7 @@ fn put_rows(page: &mut [u8], used: usize, table: &[u32], rows: usize) -> usize {
 }
 
 // Whether the table has so many rows, and is as it was past them.
-fn is_whole(table: &[u32], rows: usize) -> bool {
+pub fn is_whole(table: &[u32], rows: usize) -> bool {
     if table.len() / 4 < rows {
         return false;
     }
@@ -100,7 +100,13 @@ fn put_accepted(
     put_kept(page, used, is_whole(table, count))
 }
 
-fn put_refused(page: &mut [u8], used: usize, table: &[u32], number: u32, place: usize) -> usize {
+pub fn put_refused(
+    page: &mut [u8],
+    used: usize,
+    table: &[u32],
+    number: u32,
+    place: usize,
+) -> usize {
     let used = put_refusal(page, used, number, place);
     put_kept(page, used, is_kept(table, 0))
 }

@@ -18,7 +18,7 @@ use Rattle.model.specs.declared.ListOf.the-variants as list
 use Rattle.model.specs.declared.Voice.{Voice}
 use Rattle.model.specs.declared.ReadChunk.{ReadChunk}
 use Rattle.model.specs.declared.ReadChunk.the-variants.{Is, Cut}
-use Rattle.model.proofs.Outcomes.{then-fine, bind-fine}
+use Rattle.model.proofs.Outcomes.{then-fine, bind-fine, not-refused, was-passed, neither-first, neither-second}
 use Rattle.model.proofs.Walks.{Stand}
 use Rattle.chunks.specs.Kept.{chunksIn}
 use Rattle.chunks.proofs.Lists.{ChunkAhead, chunk-ahead}
@@ -26,28 +26,6 @@ use Rattle.chunks.proofs.Searches.{list-stands, checked-chunks}
 use Rattle.reading.specs.Stages.{placed}
 use Rattle.reading.proofs.TrackMade.{track-made}
 use Rattle.reading.proofs.Files.{long-enough, frame-chunks}
-
--- a test that can refuse, and did not
-
-pub not-refused : {A : Type 0} (b : Bool) (number place : ℕ) (rest : Checked A) → isFine (if b then refused number place else rest) ≡ true → b ≡ false
-unfolding if_then_else_ isFine
-not-refused true number place rest e = absurd (false≢true e)
-not-refused false number place rest e = refl
-
-was-passed : {A : Type 0} (b : Bool) (number place : ℕ) (rest : Checked A) → isFine (if b then rest else refused number place) ≡ true → b ≡ true
-unfolding if_then_else_ isFine
-was-passed true number place rest e = refl
-was-passed false number place rest e = absurd (false≢true e)
-
-neither-first : (a b : Bool) → (a or b) ≡ false → a ≡ false
-unfolding _or_
-neither-first true b e = e
-neither-first false b e = refl
-
-neither-second : (a b : Bool) → (a or b) ≡ false → b ≡ false
-unfolding _or_
-neither-second true b e = absurd (false≢true (sym e))
-neither-second false b e = e
 
 -- THE STATED BYTES of a buffer are all there, and they are what is read.
 pub stated-bytes : (buffer : List ℕ) (n : ℕ) (file : File) → fileOf buffer n ≡ fine file → (n ≤ length buffer) × (contentsOf (take n buffer) ≡ fine file)

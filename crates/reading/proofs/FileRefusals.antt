@@ -199,7 +199,7 @@ setups-low s (some one) = low-then _ _ (low-counted _ _ (setup-low _)) tt
 fixed-low : (voice : Voice) (s : List ℕ) (one : Chunk) → Low (fixedHolds voice s one)
 unfolding fixedHolds
 fixed-low voice s one =
-    low-test _ 8 _ _ (inl (omega arith)) (low-test _ 8 _ _ (inl (omega arith)) (low-test _ 8 _ _ (inl (omega arith)) (low-test _ 8 _ passed (inl (omega arith)) tt)))
+    low-test _ 8 _ _ (inl (omega arith)) (if-all Low _ _ _ (λ h. tt) (λ h. inl (omega arith)))
 
 track-low : (s : List ℕ) (voice : Voice) (one : Chunk) → Low (trackOf s voice one)
 unfolding trackOf

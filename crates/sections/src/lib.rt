@@ -15,6 +15,7 @@ pub use rest::write_from;
 pub use rows::write_span;
 pub use span::span_between;
 pub use span::span_from;
+pub use take::take_item;
 pub use word::is_message;
 pub use word::word_of;
 

@@ -110,7 +110,7 @@ abbrev pub ranked : List (Placed Entry) → ℕ → Bool
 ranked before n = any (λ earlier. n <? rank (earlier .what)) before
 
 module _ (before : List (Placed Entry)) (entry : Placed Entry) where
-  in-order-passes : tagged before (entry .what) ≡ false → ranked before (rank (entry .what)) ≡ false → inOrder before entry ≡ passed
+  pub in-order-passes : tagged before (entry .what) ≡ false → ranked before (rank (entry .what)) ≡ false → inOrder before entry ≡ passed
   unfolding inOrder if_then_else_
   in-order-passes h g = simp (h, g)
 
@@ -145,7 +145,7 @@ module _ (before : List (Placed Entry)) (seen : List Bool) (highest : ℕ) (r : 
   remember-rank up n =
       by-test (n <? rank (entry .what)) (λ h. rw h refl) (λ h. rw h (r .ranks n ∙ le-ltb n highest (omega (arith, ltb-false n (rank (entry .what)) h))))
 
-  remember : highest ≤ rank (entry .what) → Remembered (entry ∷ before) (set seen (slot (entry .what)) true) (rank (entry .what))
+  pub remember : highest ≤ rank (entry .what) → Remembered (entry ∷ before) (set seen (slot (entry .what)) true) (rank (entry .what))
   remember up = record { tags = remember-tag; ranks = remember-rank up }
 
 pub none-flagged : (many n : ℕ) → getD (replicate many false) n false ≡ false

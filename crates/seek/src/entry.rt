@@ -41,7 +41,7 @@ pub fn is_letter(byte: u8) -> bool
 }
 
 // How many letters stand from a place on, up to the first byte that is none.
-fn letters_in_front(s: &[u8], at: usize) -> usize
+pub fn letters_in_front(s: &[u8], at: usize) -> usize
     requires { ⌜ at ≤ length (now s) ⌝ }
     ensures { λ r. ⌜ r ≡ lettersInFront (drop at (now (s .entry))) ⌝ }
 {

@@ -5,7 +5,7 @@ ghost use lib.ListN.{length};
 ghost use Rattle.model.specs.Bytes.{_!_};
 ghost use Rattle.model.specs.Item.{checkAnswer};
 ghost use Rattle.model.specs.TimeBase.{isTimeBase};
-ghost use Rattle.model.specs.Track.{placeOfD, placeOfG, fixedHolds};
+ghost use Rattle.model.specs.Track.{placeOfD, placeOfG, fixedFits, fixedHolds};
 ghost use Rattle.tracks.specs.Stages.{bare};
 use model::Check;
 use model::FoundTimeBase;
@@ -41,6 +41,20 @@ fn has_base_g(voice: Voice, s: &[u8], body: usize) -> bool
     }
 }
 
+// Whether the six bytes from a place on hold, but for the first, the format.
+pub fn fixed_fits(voice: Voice, s: &[u8], body: usize) -> bool
+    requires { ⌜ body + 6 ≤ length (now s) ⌝ }
+    ensures { λ r. ⌜ r ≡ fixedFits voice (now (s .entry)) body ⌝ }
+{
+    if 1 < s[body + 1] {
+        return false;
+    }
+    if !has_base_d(voice, s, body) {
+        return false;
+    }
+    has_base_g(voice, s, body)
+}
+
 // The body of the track whose header is at a place is there.
 pub fn check_fixed(voice: Voice, s: &[u8], place: usize, size: usize) -> Check
     requires { ⌜ place + 8 + size ≤ length (now s) ⌝ }
@@ -53,23 +67,11 @@ pub fn check_fixed(voice: Voice, s: &[u8], place: usize, size: usize) -> Check
             place: body,
         };
     }
-    if 1 < s[body + 1] {
-        return Check::Refused {
-            number: 8,
-            place: body,
-        };
+    if fixed_fits(voice, s, body) {
+        return Check::Passed;
     }
-    if !has_base_d(voice, s, body) {
-        return Check::Refused {
-            number: 8,
-            place: body,
-        };
+    Check::Refused {
+        number: 8,
+        place: body,
     }
-    if !has_base_g(voice, s, body) {
-        return Check::Refused {
-            number: 8,
-            place: body,
-        };
-    }
-    Check::Passed
 }

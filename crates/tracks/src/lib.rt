@@ -4,6 +4,7 @@ mod fixed;
 mod part;
 mod track;
 
+pub use fixed::fixed_fits;
 pub use part::body_of;
 pub use part::find_part;
 pub use track::check_track;

@@ -1,104 +1,108 @@
--- A list of items checked before the first store: the invariant of `check_items`'s loop, and what each way out of it and each turn makes
--- of it. Once the size is over the room it no longer counts how far.
-use Prim.Native.Nat.{ℕ, _+_, _<_, _≤_, min}
+-- A list of items checked and counted before the first store: the invariant of `check_items`'s loop, and what each way out of it and each turn makes of it.
+use Prim.Native.Nat.{ℕ, _+_, _-_, _*_, _/_, _<_, _≤_}
 use mathlib.Core.List.{List, [], _∷_, _++_}
-use mathlib.Core.Option.{Option, none, some}
 use mathlib.Core.Path.{_≡_, refl, sym, _∙_, ap}
 use lib.ListN.{length, drop, length-append}
-use native.Mathlib.Nat.{add-zero, zero-add}
+use native.Mathlib.Nat.{add-zero, zero-add, sub-zero}
 use native.Mathlib.Omega.{arith}
-use borrow.Author.Tests.{le-ltb, lt-ltb}
-use Rattle.model.specs.Words.{if_then_else_, _<?_}
+use borrow.Author.Tests.{le-ltb, lt-ltb, eq-eqb, ne-eqb, ltb-true, ltb-false}
+use Rattle.model.specs.Words.{if_then_else_, _<?_, _≡?_, Checked, Checked.fine, Checked.refused, _>>=_, toldAt}
 use Rattle.model.specs.Bytes.{_!_}
-use Rattle.model.specs.Item.{Item, Item.endMark}
+use Rattle.model.specs.Item.{Item, isFine}
 use Rattle.model.specs.Plain.{itemBytes, bytesOf}
 use Rattle.model.specs.Content.{Content, handyPhone}
-use Rattle.model.specs.Writing.{eventOfWord, itemOf, Sequence, Sequence.items, Sequence.unfitAt, withItem, sequenceOf, wroteAnswer}
+use Rattle.model.specs.Writing.{itemGiven, itemsFrom, itemsGiven}
 use Rattle.model.specs.declared.Voice.{Voice}
 use Rattle.model.specs.declared.Wrote.{Wrote}
-use Rattle.model.specs.declared.Wrote.the-variants.{Bytes, Full, Unfit}
-use Rattle.model.proofs.Tests.{if-yes, if-no}
-use Rattle.writing.specs.Parts.{givenBytes}
-use Rattle.writing.proofs.Listed.{no-item, an-item-there, listed-next, listed-over}
+use Rattle.model.specs.declared.Wrote.the-variants.{Bytes, Refused}
+use Rattle.model.proofs.Tests.{by-test, if-true, if-false}
+use Rattle.writing.specs.Parts.{limited, faultIn, givenSize, givenBytes, sizeAnswer}
+use Rattle.writing.proofs.Limits.{limited-small, limited-most, limited-adds}
+use Rattle.writing.proofs.GivenItems.{Numbered, item-numbered, given-length}
+use Rattle.writing.proofs.Listed.{ahead, from, listed-next, listed-over}
 
--- the answer where so many items, of so many bytes together, stand before a sequence
-unfoldable pub onto : ℕ → ℕ → ℕ → Sequence → Wrote
-onto room i size (items all) =
-    if room <? size + length (bytesOf handyPhone all) then Full else Bytes (size + length (bytesOf handyPhone all))
-onto room i size (unfitAt index) = Unfit (i + index)
+-- the answer where so many bytes stand before what is left
+unfoldable pub onto : ℕ → Checked (List (Item Content)) → Wrote
+onto size (fine items) = Bytes (limited (size + length (bytesOf handyPhone items)))
+onto size (refused number place) = Refused number place
 
-module _ (room : ℕ) where
-  onto-none : (q : Sequence) → onto room 0 0 q ≡ wroteAnswer room q
-  unfolding onto wroteAnswer
-  onto-none (items all) = simp zero-add
-  onto-none (unfitAt index) = simp zero-add
+onto-none : (o : Checked (List (Item Content))) → onto 0 o ≡ sizeAnswer o
+unfolding onto sizeAnswer
+onto-none (fine items) = simp zero-add
+onto-none (refused number place) = refl
 
-  module _ (i size : ℕ) where
-    onto-unfit : (q : Sequence) → onto room i size (withItem none q) ≡ Unfit i
-    unfolding onto withItem
-    onto-unfit q = simp add-zero
+-- an item before what is left: one at fault, and one that is given
+onto-faulty : (index size number place : ℕ) (more : Checked (List (Item Content))) → onto size (ahead index (refused number place) more) ≡ Refused number index
+unfolding onto ahead toldAt _>>=_
+onto-faulty index size number place more = refl
 
-    onto-item : (item : Item Content) (q : Sequence) → onto room i size (withItem (some item) q) ≡ onto room (i + 1) (size + length (itemBytes handyPhone item)) q
-    unfolding onto withItem bytesOf
-    onto-item item (items all) =
-        let e : size + length (itemBytes handyPhone item ++ bytesOf handyPhone all) ≡ size + length (itemBytes handyPhone item) + length (bytesOf handyPhone all) =
-        omega (arith, length-append (itemBytes handyPhone item) (bytesOf handyPhone all)) in
-        simp e
-    onto-item item (unfitAt index) = ap Unfit (omega arith)
+onto-item : (index size : ℕ) (item : Item Content) (more : Checked (List (Item Content)))
+    → onto size (ahead index (fine item) more) ≡ onto (limited (size + length (itemBytes handyPhone item))) more
+unfolding onto ahead toldAt _>>=_ bytesOf
+onto-item index size item (fine items) =
+    let bytes = itemBytes handyPhone item in
+    let rest = bytesOf handyPhone items in
+    let e : size + length (bytes ++ rest) ≡ size + length bytes + length rest = omega (arith, length-append bytes rest) in
+    ap Bytes (ap limited e ∙ sym (limited-adds (size + length bytes) (length rest)))
+onto-item index size item (refused number place) = refl
 
-    onto-over : (more : ℕ) (q : Sequence) → room < size → onto room i (size + more) q ≡ onto room i size q
-    unfolding onto if_then_else_
-    onto-over more (items all) h =
-        let a : room < size + more + length (bytesOf handyPhone all) = omega arith in
-        let b : room < size + length (bytesOf handyPhone all) = omega arith in
-        simp lt-ltb
-    onto-over more (unfitAt index) h = refl
+pub record Checking (voice : Voice) (source numbers : List ℕ) (count size i : ℕ) : Type 0 where
+  pub few : size ≤ 65537
+  pub same : onto size (from voice source numbers count i i) ≡ sizeAnswer (itemsGiven voice source numbers)
 
-pub record Checking (voice : Voice) (s durations words : List ℕ) (room size i : ℕ) : Type 0 where
-  pub few : size ≤ room + 260
-  pub same : onto room i size (sequenceOf voice s (drop i durations) (drop i words)) ≡ wroteAnswer room (sequenceOf voice s durations words)
+module _ (voice : Voice) (source numbers : List ℕ) (count : ℕ) (counted : count ≡ length numbers / 2) where
+  pub check-none : count ≡ 0 → Refused 11 0 ≡ sizeAnswer (itemsGiven voice source numbers)
+  unfolding itemsGiven sizeAnswer if_then_else_
+  check-none h = let e : length numbers / 2 ≡ 0 = sym counted ∙ h in simp e
 
-module _ (voice : Voice) (s durations words : List ℕ) (room : ℕ) where
-  pub check-starts : Checking voice s durations words room 0 0
-  check-starts = record { few = omega arith; same = onto-none room _ }
+  pub check-starts : (count ≡ 0 → ⊥) → Checking voice source numbers count 0 0
+  unfolding itemsGiven
+  check-starts h =
+      let some : length numbers / 2 ≡ 0 → ⊥ = λ e. h (counted ∙ e) in
+      let whole : itemsGiven voice source numbers ≡ itemsFrom voice source count 0 numbers =
+      if-false (length numbers / 2 ≡? 0) _ _ (ne-eqb _ 0 some) ∙ ap (λ (n : ℕ). itemsFrom voice source n 0 numbers) (sym counted) in
+      let start : from voice source numbers count 0 0 ≡ itemsFrom voice source count 0 numbers = ap (λ (n : ℕ). itemsFrom voice source n 0 numbers) (sub-zero count) in
+      record { few = omega arith; same = ap (onto 0) start ∙ onto-none (itemsFrom voice source count 0 numbers) ∙ ap sizeAnswer (sym whole) }
 
-  module _ (size i : ℕ) (r : Checking voice s durations words room size i) (count : ℕ) (counted : count ≡ min (length durations) (length words)) where
-    -- past the last item
-    ended : count ≤ i → onto room i size (items (endMark ∷ [])) ≡ wroteAnswer room (sequenceOf voice s durations words)
-    ended h = ap (onto room i size) (sym (listed-over voice s durations words i (omega arith))) ∙ r .same
+  module _ (size i : ℕ) (r : Checking voice source numbers count size i) where
+    pub check-done : count ≤ i → Bytes size ≡ sizeAnswer (itemsGiven voice source numbers)
+    unfolding onto bytesOf
+    check-done h =
+        let all : limited (size + 0) ≡ size = ap limited (add-zero size) ∙ limited-small size (r .few) in
+        ap Bytes (sym all) ∙ ap (onto size) (sym (listed-over voice source numbers count i h)) ∙ r .same
 
-    pub check-full : count ≤ i → room < size + 4 → Full ≡ wroteAnswer room (sequenceOf voice s durations words)
-    unfolding onto bytesOf itemBytes
-    check-full h k = if-yes (room <? size + 4) Full _ _ (lt-ltb room (size + 4) k) refl ∙ ended h
-
-    pub check-done : count ≤ i → size + 4 ≤ room → Bytes (size + 4) ≡ wroteAnswer room (sequenceOf voice s durations words)
-    unfolding onto bytesOf itemBytes
-    check-done h k = if-no (room <? size + 4) Full _ _ (le-ltb room (size + 4) k) refl ∙ ended h
-
-    -- before it
-    module _ (here : i < count) (more : ℕ) (sized : more ≡ length (givenBytes (itemOf voice s (durations ! i) (eventOfWord (words ! i))))) where
-      turned : (found : Option (Item Content)) → itemOf voice s (durations ! i) (eventOfWord (words ! i)) ≡ found
-          → onto room i size (withItem found (sequenceOf voice s (drop (i + 1) durations) (drop (i + 1) words))) ≡ wroteAnswer room (sequenceOf voice s durations words)
-      turned found e =
-          ap (λ (o : Option (Item Content)). onto room i size (withItem o (sequenceOf voice s (drop (i + 1) durations) (drop (i + 1) words)))) (sym e)
-          ∙ ap (onto room i size) (sym (listed-next voice s durations words i (omega arith)))
+    module _ (here : i < count) (fault : ℕ) (is : fault ≡ faultIn (itemGiven voice source (numbers ! (2 * i)) (numbers ! (2 * i + 1)))) where
+      turned : (one : Checked (Item Content)) → itemGiven voice source (numbers ! (2 * i)) (numbers ! (2 * i + 1)) ≡ one
+          → onto size (ahead i one (from voice source numbers count i (i + 1))) ≡ sizeAnswer (itemsGiven voice source numbers)
+      turned one e =
+          ap (λ (o : Checked (Item Content)). onto size (ahead i o (from voice source numbers count i (i + 1)))) (sym e)
+          ∙ ap (onto size) (sym (listed-next voice source numbers count i here))
           ∙ r .same
 
-      pub check-unfit : more ≡ 0 → Unfit i ≡ wroteAnswer room (sequenceOf voice s durations words)
-      check-unfit h = sym (onto-unfit room i size _) ∙ turned none (no-item _ (sym sized ∙ h))
+      pub check-faulty : (fault ≡ 0 → ⊥) → Refused fault i ≡ sizeAnswer (itemsGiven voice source numbers)
+      unfolding faultIn
+      check-faulty h = go (itemGiven voice source (numbers ! (2 * i)) (numbers ! (2 * i + 1))) refl
+        where
+          go : (one : Checked (Item Content)) → itemGiven voice source (numbers ! (2 * i)) (numbers ! (2 * i + 1)) ≡ one
+              → Refused fault i ≡ sizeAnswer (itemsGiven voice source numbers)
+          go (fine item) e = absurd (h (is ∙ ap faultIn e))
+          go (refused number place) e =
+              ap (λ (n : ℕ). Refused n i) (is ∙ ap faultIn e) ∙ sym (onto-faulty i size number place _) ∙ turned (refused number place) e
 
-      longer : (more ≡ 0 → ⊥)
-          → onto room (i + 1) (size + more) (sequenceOf voice s (drop (i + 1) durations) (drop (i + 1) words)) ≡ wroteAnswer room (sequenceOf voice s durations words)
-      unfolding givenBytes
-      longer h =
-          let this = an-item-there _ (λ e. h (sized ∙ e)) in
-          let e : more ≡ length (itemBytes handyPhone (this .0)) = sized ∙ ap (λ (o : Option (Item Content)). length (givenBytes o)) (this .1) in
-          rw e (sym (onto-item room i size (this .0) _) ∙ turned (some (this .0)) (this .1))
+      pub check-goes-on : (more next : ℕ) → fault ≡ 0 → more ≡ givenSize (numbers ! (2 * i)) (numbers ! (2 * i + 1)) → next ≡ limited (size + more)
+          → Checking voice source numbers count next (i + 1)
+      unfolding faultIn isFine givenBytes
+      check-goes-on more next h m n = go (itemGiven voice source (numbers ! (2 * i)) (numbers ! (2 * i + 1))) refl (item-numbered voice source _ _)
+        where
+          go : (one : Checked (Item Content)) → itemGiven voice source (numbers ! (2 * i)) (numbers ! (2 * i + 1)) ≡ one → Numbered one
+              → Checking voice source numbers count next (i + 1)
+          go (refused number place) e k = absurd (omega (arith, is ∙ ap faultIn e))
+          go (fine item) e k =
+              let sized : more ≡ length (itemBytes handyPhone item) = m ∙ sym (given-length voice source _ _ (ap isFine e)) ∙ ap (λ (o : Checked (Item Content)). length (givenBytes o)) e in
+              let on : next ≡ limited (size + length (itemBytes handyPhone item)) = n ∙ ap (λ (k : ℕ). limited (size + k)) sized in
+              record {
+                few = rw n (limited-most (size + more));
+                same = ap (λ (k : ℕ). onto k (from voice source numbers count i (i + 1))) on ∙ sym (onto-item i size item _) ∙ turned (fine item) e;
+              }
 
-      pub check-grows : (more ≡ 0 → ⊥) → size ≤ room → more ≤ 260 → Checking voice s durations words room (size + more) (i + 1)
-      check-grows h k n = record { few = omega arith; same = longer h }
-
-      pub check-stays : (more ≡ 0 → ⊥) → room < size → Checking voice s durations words room size (i + 1)
-      check-stays h k = record { few = r .few; same = sym (onto-over room (i + 1) size more _ k) ∙ longer h }
-
-pub ruleset checks = (check-starts, check-full, check-done, check-unfit, check-grows, check-stays)
+pub ruleset checks = (check-none, check-starts, check-done, check-faulty, check-goes-on)

@@ -12,7 +12,7 @@ use Rattle.model.specs.Bytes.{_!_}
 use Rattle.model.specs.Duration.{twoByteValue, durationAt, notZero, gateAt, durationBytes}
 use Rattle.model.specs.Event.{isNote, isWave, isSound, sound, gated, soundAt, longKind, shortKind, hasKind, isValue, longAt, shortAt, formed, controlAt, closedAt, exclusiveAt, systemAt, eventAt}
 use Rattle.model.specs.Content.{contentOf, codeOf, contentBytes}
-use Rattle.model.specs.Writing.{isGate, noteFits, waveFits, controlFits, contentFits}
+use Rattle.model.specs.Writing.{isGate, noteFits, waveFits, valueFits, controlFits, contentFits}
 use Rattle.model.specs.declared.Voice.{Voice}
 use Rattle.model.specs.declared.Voice.the-variants.{Score, Pcm}
 use Rattle.model.specs.declared.Event.the-variants.{Nop, Control, Exclusive}
@@ -112,7 +112,7 @@ module _ (s : List ℕ) (bytes : (k : ℕ) → s ! k < 256) where
   module _ (voice : Voice) (at : ℕ) (here : at < length s) (zero-here : s ! at ≡ 0x00) (next-here : at + 1 < length s) where
     long-control : (kind : ℕ) → kind ≡ longKind (s ! (at + 1) % 16) → s ! (at + 1) / 16 % 4 ≡ 3 → (kind ≡ 0 → ⊥) → hasKind voice kind ≡ true
         → at + 2 < length s → isValue kind (s ! (at + 2)) ≡ true → EventStands voice s at (event.Is (Control kind (s ! (at + 1) / 64) (s ! (at + 2))) (at + 3))
-    unfolding contentOf contentFits contentBytes controlFits if_then_else_ _and_
+    unfolding contentOf contentFits contentBytes controlFits valueFits if_then_else_ _and_
     long-control kind is form some has there ok =
         let b = bytes (at + 1) in
         let v = bytes (at + 2) in
@@ -134,7 +134,7 @@ module _ (s : List ℕ) (bytes : (k : ℕ) → s ! k < 256) where
     short-control : (kind : ℕ) → kind ≡ 13 - s ! (at + 1) / 16 % 4 → (s ! (at + 1) / 16 % 4 ≡ 3 → ⊥) → hasKind voice kind ≡ true
         → (s ! (at + 1) % 16 ≡ 0 → ⊥) → (s ! (at + 1) % 16 ≡ 15 → ⊥)
         → EventStands voice s at (event.Is (Control kind (s ! (at + 1) / 64) (s ! (at + 1) % 16)) (at + 2))
-    unfolding contentOf contentFits contentBytes controlFits if_then_else_ _and_
+    unfolding contentOf contentFits contentBytes controlFits valueFits if_then_else_ _and_
     short-control kind is form has some less =
         let b = bytes (at + 1) in
         let from : 3 ≤ kind = omega arith in

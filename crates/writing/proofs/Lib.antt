@@ -1,5 +1,4 @@
 -- The laws that the functions' proofs cite, each file resting on those above it.
-pub mod Answers
 pub mod Cases
 pub mod Durations
 pub mod Numbers
@@ -7,13 +6,17 @@ pub mod Stores
 pub mod Events
 pub mod Contents
 pub mod Items
+pub mod WordCases
+pub mod GivenItems
+pub mod Limits
 pub mod Listed
 pub mod Checking
+pub mod Filling
+pub mod Answers
 pub mod ContentFits
 pub mod Stands
 pub mod EventBack
 pub mod EventStands
-pub mod Filling
 pub mod NoMark
 pub mod ReadBack
 pub mod PutBack

@@ -9,7 +9,7 @@ use borrow.Author.Tests.{leb-true, eqb-true, lt-ltb, le-ltb}
 use Rattle.model.specs.Words.{_and_, _<?_, _≤?_}
 use Rattle.model.specs.Bytes.{_!_}
 use Rattle.model.specs.Event.{isNote, isWave, hasKind, isValue}
-use Rattle.model.specs.Writing.{isGate, noteFits, waveFits, controlFits, exclusiveFits}
+use Rattle.model.specs.Writing.{isGate, noteFits, waveFits, valueFits, controlFits, exclusiveFits}
 use Rattle.model.specs.declared.Voice.{Voice}
 use Rattle.model.specs.declared.Voice.the-variants.{Score, Pcm}
 use Rattle.model.proofs.Tests.{and-left, and-right, if-true, if-false}
@@ -74,7 +74,7 @@ is-wave Pcm channel number gate h =
     }
 
 pub is-control : (voice : Voice) (kind channel value : ℕ) → controlFits voice kind channel value ≡ true → IsControl voice kind channel value
-unfolding controlFits
+unfolding controlFits valueFits
 is-control voice kind channel value h =
     let k = and-right (channel ≤? 3) _ h in
     let l = and-right (3 ≤? kind) _ k in

@@ -1,18 +1,19 @@
 -- What the writers of an event ask of its numbers, the bytes of each kind of event, and how many bytes an event takes; the same of a
--- whole sequence.
+-- list of items that are given.
 use Prim.Native.Nat.{ℕ, _+_, _*_, _≤_, _<_}
 use mathlib.Core.List.{List, [], _∷_}
-use mathlib.Core.Option.{Option, none, some}
 use lib.ListN.{length}
-use Rattle.model.specs.Words.{if_then_else_, _<?_}
+use Rattle.model.specs.Words.{if_then_else_, _<?_, _≡?_, Checked, Checked.fine, Checked.refused}
 use Rattle.model.specs.Bytes.{part}
 use Rattle.model.specs.Duration.{durationBytes}
 use Rattle.model.specs.Item.{Item}
 use Rattle.model.specs.Plain.{itemBytes, bytesOf}
 use Rattle.model.specs.Content.{Content, handyPhone}
-use Rattle.model.specs.Writing.{Sequence, Sequence.items, Sequence.unfitAt}
+use Rattle.model.specs.Writing.{kindIn, eventIn}
 use Rattle.model.specs.declared.Event.{Event}
 use Rattle.model.specs.declared.Event.the-variants.{Nop, Note, Wave, Control, Exclusive}
+use Rattle.model.specs.declared.Wrote.{Wrote}
+use Rattle.model.specs.declared.Wrote.the-variants.{Bytes, Refused}
 
 -- the numbers of a note or a wave
 pub record SoundFit (channel low gate : ℕ) : Type 0 where
@@ -39,16 +40,28 @@ eventSize (Wave channel number gate) = 1 + length (durationBytes gate)
 eventSize (Control kind channel value) = if kind <? 11 then 3 else 2
 eventSize (Exclusive place size) = 3 + size
 
--- none for what is no item
-unfoldable pub givenBytes : Option (Item Content) → List ℕ
-givenBytes none = []
-givenBytes (some item) = itemBytes handyPhone item
+-- more than 65,536 is as much as 65,537
+unfoldable pub limited : ℕ → ℕ
+limited n = if 65536 <? n then 65537 else n
 
-unfoldable pub sequenceBytes : Sequence → List ℕ
-sequenceBytes (items all) = bytesOf handyPhone all
-sequenceBytes (unfitAt index) = []
+-- GIVEN ITEMS: the number of the refusal, 0 for none; the bytes of an item and of a list, none where there is a refusal; how many bytes a duration and a word
+-- take that are no fault
 
--- a room holds a sequence that can be written
-abbrev pub Holds : ℕ → Sequence → Type 0
-Holds room (items all) = length (bytesOf handyPhone all) ≤ room
-Holds room (unfitAt index) = ⊥
+unfoldable pub faultIn : {A : Type 0} → Checked A → ℕ
+faultIn (fine a) = 0
+faultIn (refused number place) = number
+
+unfoldable pub givenSize : ℕ → ℕ → ℕ
+givenSize duration word = if kindIn word ≡? 16 then 4 else length (durationBytes duration) + eventSize (eventIn word)
+
+unfoldable pub givenBytes : Checked (Item Content) → List ℕ
+givenBytes (fine item) = itemBytes handyPhone item
+givenBytes (refused number place) = []
+
+unfoldable pub listBytes : Checked (List (Item Content)) → List ℕ
+listBytes (fine items) = bytesOf handyPhone items
+listBytes (refused number place) = []
+
+unfoldable pub sizeAnswer : Checked (List (Item Content)) → Wrote
+sizeAnswer (fine items) = Bytes (limited (length (bytesOf handyPhone items)))
+sizeAnswer (refused number place) = Refused number place

@@ -1,6 +1,6 @@
 // Which events can be written: those that the readers of a voice give.
 ghost use mathlib.Core.Path.{_≡_};
-ghost use Rattle.model.specs.Writing.{isGate, noteFits, waveFits, controlFits, exclusiveFits, eventFits};
+ghost use Rattle.model.specs.Writing.{isGate, noteFits, waveFits, valueFits, controlFits, exclusiveFits, eventFits};
 use items::has_kind;
 use items::is_note;
 use items::is_value;
@@ -54,6 +54,18 @@ fn wave_fits(voice: Voice, channel: u8, number: u8, gate: u32) -> bool
     }
 }
 
+pub fn value_fits(kind: u8, value: u8) -> bool
+    ensures { λ r. ⌜ r ≡ valueFits kind value ⌝ }
+{
+    if kind < 11 {
+        return is_value(kind, value);
+    }
+    if value < 1 {
+        return false;
+    }
+    value <= 14
+}
+
 fn control_fits(voice: Voice, kind: u8, channel: u8, value: u8) -> bool
     ensures { λ r. ⌜ r ≡ controlFits voice kind channel value ⌝ }
 {
@@ -69,16 +81,10 @@ fn control_fits(voice: Voice, kind: u8, channel: u8, value: u8) -> bool
     if !has_kind(voice, kind) {
         return false;
     }
-    if kind < 11 {
-        return is_value(kind, value);
-    }
-    if value < 1 {
-        return false;
-    }
-    value <= 14
+    value_fits(kind, value)
 }
 
-fn exclusive_fits(source: &[u8], place: usize, size: u8) -> bool
+pub fn exclusive_fits(source: &[u8], place: usize, size: u8) -> bool
     ensures { λ r. ⌜ r ≡ exclusiveFits (now (source .entry)) place size ⌝ }
 {
     if size < 3 {

@@ -4,8 +4,11 @@
 mod duration;
 mod event;
 mod fits;
+mod given;
 mod item;
+mod limit;
 mod list;
+mod word;
 
 pub use duration::duration_size;
 pub use duration::write_duration;
@@ -13,9 +16,14 @@ pub use event::copy_part;
 pub use event::event_size;
 pub use event::write_event;
 pub use fits::event_fits;
+pub use given::given_size;
+pub use given::write_end_mark;
 pub use item::item_size;
 pub use item::put_item;
 pub use item::write_item;
-pub use list::event_in;
-pub use list::write_end_mark;
+pub use limit::limited_sum;
+pub use limit::within_limit;
+pub use list::check_items;
 pub use list::write_items;
+pub use list::write_list;
+pub use word::event_in;

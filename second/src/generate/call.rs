@@ -2,6 +2,7 @@
 
 use crate::case::{Case, Operation, LARGEST_ROOM};
 use crate::file::{open, Melody};
+use crate::give::entries_of;
 use crate::plain::plain_length;
 use crate::play::Performance;
 use crate::random::Random;
@@ -36,14 +37,15 @@ fn room_needed(operation: Operation, melody: &Melody, row: u32) -> Option<u64> {
         return Some(melody.rows.len() as u64);
     }
     let track = melody.track(row).ok()?;
-    let performance = Performance::of(track).ok()?;
     match operation {
-        Operation::Play => Some(performance.message_count()),
-        _ => Some(plain_length(&performance, &track.sequence)),
+        Operation::Items => Some(track.sequence.items.len() as u64),
+        Operation::Entries => Some(entries_of(&track.seek).len() as u64),
+        Operation::Play => Some(Performance::of(track).ok()?.message_count()),
+        _ => Some(plain_length(&Performance::of(track).ok()?, &track.sequence)),
     }
 }
 
-fn room_near(random: &mut Random, need: Option<u64>) -> u32 {
+pub fn room_near(random: &mut Random, need: Option<u64>) -> u32 {
     let largest = u64::from(LARGEST_ROOM);
     let need = need.unwrap_or(10).min(largest);
     let room = match random.below(100) {

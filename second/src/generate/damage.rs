@@ -11,7 +11,7 @@ use crate::refusal::Clause;
 /// The clauses that a file by itself can be refused by.
 pub fn file_clauses() -> Vec<Clause> {
     let of_file = |clause: &Clause| matches!(clause.number(), 2..=14 | 17 | 20..=23);
-    Clause::ALL.iter().copied().filter(of_file).collect()
+    Clause::READING.iter().copied().filter(of_file).collect()
 }
 
 /// Damages a file by each of the clauses: bodies first, then the tree.

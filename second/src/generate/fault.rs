@@ -35,7 +35,7 @@ pub fn is_cut(clause: Clause) -> bool {
 
 /// The clauses of faulty items.
 pub fn item_clauses() -> Vec<Clause> {
-    Clause::ALL.iter().copied().filter(|clause| matches!(clause.number(), 20..=23)).collect()
+    Clause::READING.iter().copied().filter(|clause| matches!(clause.number(), 20..=23)).collect()
 }
 
 /// The voices in which an item can have the fault.

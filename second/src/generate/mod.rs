@@ -1,19 +1,25 @@
-//! The generator of cases: good files of every shape, damaged and mutated
-//! ones, and calls on them. The same seed gives the same cases.
+//! The generator of cases: good files and descriptions of every shape, damaged
+//! and mutated ones, and calls on them. The same seed gives the same cases.
 
 mod call;
 pub mod damage;
+pub mod damage_describe;
 mod damage_item;
 mod damage_seek;
+mod damage_seek_entry;
 mod damage_tree;
+pub mod describe;
 mod event;
 pub mod fault;
 pub mod file;
 mod large;
+mod large_describe;
 mod mutate;
 mod seek;
 pub mod sequence;
 pub mod tree;
+pub mod word;
+pub mod write_call;
 
 use crate::case::{Case, Operation};
 use crate::generate::damage::{damaged, file_clauses};
@@ -33,6 +39,8 @@ pub fn case(operations: &[Operation], seed: u64, number: u64) -> Case {
     let slot = number / count % PERIOD;
     match operation {
         Operation::Pitch => any_pitch(&mut random),
+        Operation::Write => write_call::write_case(&mut random, slot),
+        Operation::WriteBody => write_call::body_case(&mut random, slot),
         _ => {
             let file = any_file(&mut random, operation, slot);
             call::call(&mut random, operation, file)

@@ -2,9 +2,9 @@
 #![allow(dead_code)]
 
 use second::file::open;
+use second::frame::{chunk, whole_file};
 use second::plain::flatten;
 use second::play::{play, word_of};
-use second::tune::{chunk, whole_file};
 
 pub const STREAM: u8 = 0;
 pub const PHRASES: u8 = 1;

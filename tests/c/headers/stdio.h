@@ -7,6 +7,7 @@ extern FILE *stdin, *stdout, *stderr;
 FILE *fopen(const char *name, const char *mode);
 int fclose(FILE *file);
 size_t fread(void *memory, size_t size, size_t count, FILE *file);
+size_t fwrite(const void *memory, size_t size, size_t count, FILE *file);
 int fflush(FILE *file);
 int feof(FILE *file);
 int ferror(FILE *file);

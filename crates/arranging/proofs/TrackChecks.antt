@@ -1,0 +1,235 @@
+-- One track checked: its entries beside its items, and then all of it, from the answers that were found part by part.
+use Prim.Native.Nat.{ℕ, _+_, _*_, _<_, _≤_}
+use mathlib.Core.Bool.{Bool, true, false, not, false≢true}
+use mathlib.Core.List.{List, [], _∷_, _++_, map}
+use mathlib.Core.Path.{_≡_, refl, sym, _∙_, ap}
+use lib.ListN.{length, length-append}
+use native.Mathlib.Omega.{arith}
+use Rattle.model.specs.Words.{if_then_else_, _and_, _≡?_, isSome, Placed, Checked, Checked.fine, Checked.refused, passed, _>>=_, _>>_, toldAt, allPass}
+use Rattle.model.specs.Bytes.{_!_, part, MTR, Mtsq}
+use Rattle.model.specs.ChunkBytes.{chunkBytes}
+use Rattle.model.specs.Item.{Item, isFine, found}
+use Rattle.model.specs.Seek.{Entry, Entry.start, Entry.stop, Entry.phrase, Entry.order, phraseOf}
+use Rattle.model.specs.Points.{pointHolds, pointsHold, isPosition, lettersNamed, lettersHold, orderHolds}
+use Rattle.model.specs.Track.{pointWidth, fixedFits, pointsOf}
+use Rattle.model.specs.Plain.{bytesOf}
+use Rattle.model.specs.Content.{Content, handyPhone}
+use Rattle.model.specs.Writing.{itemsGiven, itemsPlaced}
+use Rattle.model.specs.SeekBytes.{entriesGiven}
+use Rattle.model.specs.Arrangement.{ScoreTrack, hasPhrases, seekChunk, trackBytes}
+use Rattle.model.specs.Tables.{Given, fixedGiven, trackGiven}
+use Rattle.model.specs.declared.Voice.the-variants.{Score}
+use Rattle.model.specs.declared.Wrote.{Wrote}
+use Rattle.model.specs.declared.Wrote.the-variants.{Bytes, Refused}
+use Rattle.model.proofs.Parts.{part-length}
+use Rattle.model.proofs.Tests.{by-test, if-all, if-true, if-false, flag-on, flag-off}
+use Rattle.writing.specs.Parts.{limited, faultIn, listBytes, sizeAnswer}
+use Rattle.writing.proofs.GivenItems.{Numbered, then-numbered}
+use Rattle.writing.proofs.Limits.{limited-adds}
+use Rattle.entries.specs.Answers.{entriesIn, seekAnswer}
+use Rattle.entries.specs.Places.{isPlace}
+use Rattle.entries.specs.Rules.{rulesHold}
+use Rattle.entries.proofs.PlacesAre.{rules-are}
+use Rattle.arranging.specs.Stages.{givenOf, seekStage, sizeBehind, seekThen, trackAnswer}
+use Rattle.arranging.proofs.TrackStores.{chunk-long, head-byte}
+
+-- a refusal of the rules has a number
+all-numbered : {A : Type 0} (check : A → Checked (Unit {0})) → ((a : A) → Numbered (check a)) → (all : List A) → Numbered (allPass check all)
+unfolding allPass
+all-numbered check each [] = tt
+all-numbered check each (a ∷ rest) = then-numbered (check a) _ (each a) (all-numbered check each rest)
+
+letters-numbered : (entries : List (Placed Entry)) (at : ℕ) (letters : List ℕ) → Numbered (lettersNamed entries at letters)
+unfolding lettersNamed
+letters-numbered entries at [] = tt
+letters-numbered entries at (letter ∷ letters) = if-all Numbered _ _ _ (λ h. letters-numbered entries (at + 1) letters) (λ h. omega arith)
+
+entry-numbered : (entries : List (Placed Entry)) (at : ℕ) (entry : Entry) → Numbered (lettersHold entries at entry)
+unfolding lettersHold
+entry-numbered entries at (start value) = tt
+entry-numbered entries at (stop value) = tt
+entry-numbered entries at (phrase letter from to) = tt
+entry-numbered entries at (order letters) = letters-numbered entries (at + 3) letters
+
+points-numbered : (address point : ℕ → Bool) (entries : List (Placed Entry)) → Numbered (pointsHold address point entries)
+unfolding pointsHold
+points-numbered address point entries = all-numbered _ (λ entry. if-all Numbered _ _ _ (λ h. tt) (λ h. omega arith)) entries
+
+rules-numbered : (phrases : Bool) (address : ℕ → Bool) (entries : List (Placed Entry)) → Numbered (rulesHold phrases address entries)
+unfolding rulesHold orderHolds
+rules-numbered false address entries = points-numbered address address entries
+rules-numbered true address entries =
+    then-numbered _ _ (points-numbered address (isPosition entries) entries)
+    (all-numbered _ (λ entry. entry-numbered entries (entry .place) (entry .what)) entries)
+
+-- THE ENTRIES beside the items
+module _ (index body : ℕ) (phrases : Bool) (entries items letters : List ℕ) (answer : Wrote)
+    (is : answer ≡ seekAnswer phrases (toldAt 0 (entriesGiven phrases letters entries))) where
+  module _ (number place : ℕ) (refuses : answer ≡ Refused number place) where
+    not-given : (o : Checked (List (Placed Entry))) → seekAnswer phrases (toldAt 0 o) ≡ Refused number place → (p : ℕ) × (o ≡ refused number p)
+    unfolding seekAnswer toldAt
+    not-given (fine placed) e = let z : _≡_ {A = ℕ} 0 1 = cc in absurd (omega arith)
+    not-given (refused n p) e = (p, let same : n ≡ number = cc in ap (λ (k : ℕ). refused k p) same)
+
+    pub seek-refused : Refused number index ≡ seekThen index phrases body entries items letters
+    unfolding seekThen seekStage sizeBehind _>>=_
+    seek-refused = rw (not-given (entriesGiven phrases letters entries) (sym is ∙ refuses) .1)
+
+  module _ (size : ℕ) (sized : answer ≡ Bytes size) where
+    given-so : (o : Checked (List (Placed Entry))) → seekAnswer phrases (toldAt 0 o) ≡ Bytes size
+        → (placed : List (Placed Entry)) × (o ≡ fine placed) × (size ≡ limited (length (seekChunk (pointWidth phrases) (entriesIn placed))))
+    unfolding seekAnswer toldAt
+    given-so (fine placed) e = (placed, refl, cc)
+    given-so (refused n p) e = let z : _≡_ {A = ℕ} 0 1 = cc in absurd (omega arith)
+
+    these : (placed : List (Placed Entry)) × (entriesGiven phrases letters entries ≡ fine placed) × (size ≡ limited (length (seekChunk (pointWidth phrases) (entriesIn placed))))
+    these = given-so (entriesGiven phrases letters entries) (sym is ∙ sized)
+
+    pub seek-given : isFine (entriesGiven phrases letters entries) ≡ true
+    unfolding isFine
+    seek-given = ap isFine (these .1)
+
+    module _ (fault : ℕ) (ruled : fault ≡ faultIn (rulesHold phrases (isPlace items) (found (entriesGiven phrases letters entries)))) where
+      rules-so : fault ≡ faultIn (rulesHold phrases (isPlace items) (these .0))
+      unfolding found
+      rules-so = ruled ∙ ap (λ (o : Checked (List (Placed Entry))). faultIn (rulesHold phrases (isPlace items) (found o))) (these .1)
+
+      staged : (o : Checked (Unit {0})) → rulesHold phrases (isPlace items) (these .0) ≡ o → seekStage phrases entries items letters ≡ (o >> fine (these .0))
+      unfolding seekStage _>>=_
+      staged o e = rw (these .1, e)
+
+      pub seek-ruled-out : (fault ≡ 0 → ⊥) → Refused fault index ≡ seekThen index phrases body entries items letters
+      unfolding seekThen sizeBehind faultIn _>>_
+      seek-ruled-out h = go (rulesHold phrases (isPlace items) (these .0)) refl
+        where
+          go : (o : Checked (Unit {0})) → rulesHold phrases (isPlace items) (these .0) ≡ o → Refused fault index ≡ seekThen index phrases body entries items letters
+          go (fine u) e = absurd (h (rules-so ∙ ap faultIn e))
+          go (refused number place) e = rw (staged (refused number place) e) (ap (λ (n : ℕ). Refused n index) (rules-so ∙ ap faultIn e))
+
+      pub seek-sized : (first whole : ℕ) → fault ≡ 0 → first ≡ limited (size + body) → whole ≡ limited (first + 22)
+          → Bytes whole ≡ seekThen index phrases body entries items letters
+      unfolding seekThen sizeBehind faultIn _>>_
+      seek-sized first whole h a b = go (rulesHold phrases (isPlace items) (these .0)) refl (rules-numbered phrases (isPlace items) (these .0))
+        where
+          chunk : ℕ
+          chunk = length (seekChunk (pointWidth phrases) (entriesIn (these .0)))
+
+          sum : whole ≡ limited (chunk + body + 22)
+          sum =
+              b ∙ ap (λ (n : ℕ). limited (n + 22)) (a ∙ ap (λ (n : ℕ). limited (n + body)) (these .2) ∙ limited-adds chunk body)
+              ∙ limited-adds (chunk + body) 22
+
+          go : (o : Checked (Unit {0})) → rulesHold phrases (isPlace items) (these .0) ≡ o → Numbered o → Bytes whole ≡ seekThen index phrases body entries items letters
+          go (fine u) e k = rw (staged (fine u) e) (ap Bytes sum)
+          go (refused number place) e k = absurd (omega (arith, rules-so ∙ ap faultIn e))
+
+pub ruleset seek-checks = (seek-refused, seek-given, seek-ruled-out, seek-sized)
+
+-- ALL OF A TRACK
+
+fixed-off : (fixed : List ℕ) → isFine (fixedGiven fixed) ≡ false → fixedGiven fixed ≡ refused 8 0
+unfolding fixedGiven isFine
+fixed-off fixed h =
+    by-test ((fixed ! 0 ≡? 0) and fixedFits Score fixed 0)
+    (λ t. absurd (false≢true (sym h ∙ ap isFine (if-true _ _ _ t))))
+    (λ t. if-false _ _ _ t)
+
+fixed-on : (fixed : List ℕ) → isFine (fixedGiven fixed) ≡ true → fixedGiven fixed ≡ passed
+unfolding fixedGiven isFine
+fixed-on fixed h =
+    by-test ((fixed ! 0 ≡? 0) and fixedFits Score fixed 0)
+    (λ t. if-true _ _ _ t)
+    (λ t. absurd (false≢true (sym (ap isFine (if-false _ _ _ t)) ∙ h)))
+
+items-refused : (o : Checked (List (Item Content))) (number place : ℕ) → sizeAnswer o ≡ Refused number place → o ≡ refused number place
+unfolding sizeAnswer
+items-refused (fine list) number place e = let z : _≡_ {A = ℕ} 0 1 = cc in absurd (omega arith)
+items-refused (refused n p) number place e = cc
+
+items-fine : (o : Checked (List (Item Content))) (size : ℕ) → sizeAnswer o ≡ Bytes size
+    → (list : List (Item Content)) × (o ≡ fine list) × (size ≡ limited (length (bytesOf handyPhone list)))
+unfolding sizeAnswer
+items-fine (fine list) size e = (list, refl, cc)
+items-fine (refused n p) size e = let z : _≡_ {A = ℕ} 0 1 = cc in absurd (omega arith)
+
+module _ (index : ℕ) (head entries items letters source : List ℕ) where
+  abbrev phrases : Bool
+  phrases = head ! 2 ≡? 1
+
+  phrased : hasPhrases (part head 1 6) ≡ phrases
+  unfolding hasPhrases
+  phrased = ap (λ (n : ℕ). n ≡? 1) (head-byte head 1 (omega arith))
+
+  abbrev track : Checked ScoreTrack
+  track = trackGiven (givenOf head entries items letters source)
+
+  told : (number place : ℕ) → track ≡ refused number place → Refused number index ≡ trackAnswer (toldAt index track)
+  unfolding trackAnswer toldAt
+  told number place e = rw e
+
+  module _ (fixed : Bool) (fits : fixed ≡ isFine (fixedGiven (part head 1 6))) where
+    pub track-fixed : not fixed ≡ true → Refused 8 index ≡ trackAnswer (toldAt index (trackGiven (givenOf head entries items letters source)))
+    unfolding trackGiven fixedGiven _>>_
+    track-fixed h = told 8 0 (rw (off-refused (flag-off fits h)))
+      where
+        off-refused : isFine (fixedGiven (part head 1 6)) ≡ false → fixedGiven (part head 1 6) ≡ refused 8 0
+        off-refused = fixed-off (part head 1 6)
+
+    module _ (seven : length head ≡ 7) (on : not fixed ≡ false) (answer : Wrote) (is : answer ≡ sizeAnswer (itemsGiven Score source items)) where
+      held : fixedGiven (part head 1 6) ≡ passed
+      held = fixed-on (part head 1 6) (flag-on fits on)
+
+      pub track-items-refused : (number place : ℕ) → answer ≡ Refused number place
+          → Refused number index ≡ trackAnswer (toldAt index (trackGiven (givenOf head entries items letters source)))
+      unfolding trackGiven _>>_ _>>=_
+      track-items-refused number place e = told number place (rw (held, items-refused (itemsGiven Score source items) number place (sym is ∙ e)))
+
+      module _ (list : List (Item Content)) (given : itemsGiven Score source items ≡ fine list) (size : ℕ) (sized : size ≡ limited (length (bytesOf handyPhone list))) where
+        abbrev made : List (Placed Entry) → ScoreTrack
+        made placed = record { number = head ! 0; fixed = part head 1 6; entries = entriesIn placed; items = list }
+
+        opened : track ≡ (entriesGiven phrases letters entries >>= λ placed. (pointsOf phrases (itemsPlaced list) (length (bytesOf handyPhone list)) placed >> fine (made placed)))
+        unfolding trackGiven _>>_ _>>=_
+        opened = rw (held, given, phrased)
+
+        -- how many bytes a track takes
+        track-long : (placed : List (Placed Entry))
+            → length (trackBytes (made placed)) ≡ length (seekChunk (pointWidth phrases) (entriesIn placed)) + length (bytesOf handyPhone list) + 22
+        unfolding trackBytes
+        track-long placed =
+            let seek = seekChunk (pointWidth phrases) (entriesIn placed) in
+            let body = chunkBytes Mtsq (bytesOf handyPhone list) in
+            let a = length-append (part head 1 6 ++ seek) body in
+            let b = length-append (part head 1 6) seek in
+            let six = part-length head 1 6 (omega (arith, seven)) in
+            rw phrased
+            (chunk-long (MTR * 256 + head ! 0) (part head 1 6 ++ seek ++ body) ∙ omega (arith, a, b, six, chunk-long Mtsq (bytesOf handyPhone list)))
+
+        sums : (chunk : ℕ) → limited (chunk + size + 22) ≡ limited (chunk + length (bytesOf handyPhone list) + 22)
+        sums chunk =
+            let bytes = length (bytesOf handyPhone list) in
+            let there : chunk + size + 22 ≡ limited bytes + (chunk + 22) = omega (arith, sized) in
+            let back : bytes + (chunk + 22) ≡ chunk + bytes + 22 = omega arith in
+            ap limited there ∙ limited-adds bytes (chunk + 22) ∙ ap limited back
+
+        behind : (o : Checked (List (Placed Entry))) → entriesGiven phrases letters entries ≡ o
+            → sizeBehind index phrases size (seekStage phrases entries items letters) ≡ trackAnswer (toldAt index track)
+        unfolding seekStage sizeBehind trackAnswer toldAt _>>=_ _>>_
+        behind (refused number place) e = rw (opened, e)
+        behind (fine placed) e = go (rulesHold phrases (isPlace items) placed) refl
+          where
+            go : (q : Checked (Unit {0})) → rulesHold phrases (isPlace items) placed ≡ q
+                → sizeBehind index phrases size (seekStage phrases entries items letters) ≡ trackAnswer (toldAt index track)
+            go (refused number place) f = rw (opened, e, ← rules-are Score source items list given phrases placed, f)
+            go (fine u) f =
+                rw (opened, e, ← rules-are Score source items list given phrases placed, f)
+                (ap Bytes (sums _ ∙ ap limited (sym (track-long placed))))
+
+      pub track-seek : (size : ℕ) (z : Wrote) → answer ≡ Bytes size → z ≡ seekThen index (head ! 2 ≡? 1) size entries items letters
+          → z ≡ trackAnswer (toldAt index (trackGiven (givenOf head entries items letters source)))
+      unfolding seekThen
+      track-seek size z e q =
+          let these = items-fine (itemsGiven Score source items) size (sym is ∙ e) in
+          q ∙ behind (these .0) (these .1) size (these .2) (entriesGiven phrases letters entries) refl
+
+pub ruleset track-checks = (track-fixed, track-items-refused, track-seek)

@@ -1,0 +1,79 @@
+-- The bytes of rows are those of the entries that they give, and so is the size of their chunk; what is answered of it.
+use Prim.Native.Nat.{ℕ}
+use mathlib.Core.List.{List, [], _∷_, _++_}
+use mathlib.Core.Bool.{Bool, true, false, false≢true}
+use mathlib.Core.Path.{_≡_, refl, sym, _∙_, ap, ap₂}
+use lib.ListN.{length}
+use native.Mathlib.Omega.{arith}
+use Rattle.model.specs.Words.{if_then_else_, Placed, Checked, Checked.fine, Checked.refused, toldAt}
+use Rattle.model.specs.Item.{isFine, found}
+use Rattle.model.specs.Seek.{Entry, Entry.start, Entry.stop, Entry.phrase, Entry.order}
+use Rattle.model.specs.Track.{pointWidth}
+use Rattle.model.specs.ChunkBytes.{numberBytes, chunkBytes}
+use Rattle.model.specs.SeekBytes.{dataBytes, entryBytes, furtherBytes, seekBytes, entriesPlaced, entriesGiven}
+use Rattle.model.specs.Arrangement.{seekChunk}
+use Rattle.model.specs.declared.Wrote.{Wrote}
+use Rattle.model.specs.declared.Wrote.the-variants.{Bytes, Refused}
+use Rattle.model.proofs.Tests.{flag-on, flag-off}
+use Rattle.writing.specs.Parts.{limited}
+use Rattle.entries.specs.declared.row.Row.{Row}
+use Rattle.entries.specs.Answers.{entriesIn, seekAnswer}
+use Rattle.entries.specs.Rows.{rowsIn, dataOf, rowBytes, rowsBytes, seekSize}
+use Rattle.entries.proofs.RowIs.{RowIs, row-tag}
+use Rattle.entries.proofs.GivenEntries.{RowsAre, given-entries, given-twelve}
+
+module _ (phrases : Bool) (letters : List ℕ) where
+  row-data : (row : Row) (entry : Entry) → RowIs letters row entry → dataOf phrases letters row ≡ dataBytes (pointWidth phrases) entry
+  unfolding dataOf dataBytes if_then_else_
+  row-data row (start value) is = rw (is .0, is .1)
+  row-data row (stop value) is = rw (is .0, is .1)
+  row-data row (phrase letter from to) is = rw (is .0, is .2, is .3)
+  row-data row (order others) is = rw (is .0, is .1)
+
+  row-bytes : (row : Row) (entry : Entry) → RowIs letters row entry → rowBytes phrases letters row ≡ 0x2C ∷ entryBytes (pointWidth phrases) entry
+  unfolding rowBytes entryBytes numberBytes
+  row-bytes row entry is = rw (← row-tag letters row entry is, row-data row entry is)
+
+  pub rows-bytes : (rows : List Row) (entries : List Entry) → RowsAre letters rows entries → rowsBytes phrases letters rows ≡ furtherBytes (pointWidth phrases) entries
+  unfolding rowsBytes furtherBytes
+  rows-bytes [] [] are = refl
+  rows-bytes [] (entry ∷ entries) are = absurd are
+  rows-bytes (row ∷ rows) [] are = absurd are
+  rows-bytes (row ∷ rows) (entry ∷ entries) are = ap₂ _++_ (row-bytes row entry (are .0)) (rows-bytes rows entries (are .1))
+
+  pub chunk-size : (rows : List Row) (entries : List Entry) → RowsAre letters rows entries
+      → length (seekChunk (pointWidth phrases) entries) ≡ seekSize phrases letters rows
+  unfolding seekChunk seekSize chunkBytes seekBytes furtherBytes numberBytes
+  chunk-size [] [] are = refl
+  chunk-size [] (entry ∷ entries) are = absurd are
+  chunk-size (row ∷ rows) [] are = absurd are
+  chunk-size (row ∷ rows) (entry ∷ entries) are = omega (arith, ap length (rows-bytes (row ∷ rows) (entry ∷ entries) are))
+
+  module _ (numbers : List ℕ) where
+    pub given-chunk-size : isFine (entriesGiven phrases letters numbers) ≡ true
+        → length (seekChunk (pointWidth phrases) (entriesIn (found (entriesGiven phrases letters numbers)))) ≡ seekSize phrases letters (rowsIn numbers)
+    given-chunk-size h =
+        let g = given-entries phrases letters numbers h in
+        ap (λ (entries : List Entry). length (seekChunk (pointWidth phrases) entries)) (g .only) ∙ chunk-size (rowsIn numbers) (g .entries) (g .are)
+
+    pub seek-refused : isFine (entriesGiven phrases letters numbers) ≡ false → Refused 12 0 ≡ seekAnswer phrases (toldAt 0 (entriesGiven phrases letters numbers))
+    unfolding isFine toldAt seekAnswer
+    seek-refused h = go (entriesGiven phrases letters numbers) refl
+      where
+        go : (given : Checked (List (Placed Entry))) → entriesGiven phrases letters numbers ≡ given → Refused 12 0 ≡ seekAnswer phrases (toldAt 0 (entriesGiven phrases letters numbers))
+        go (fine placed) e = absurd (false≢true (sym h ∙ ap isFine e))
+        go (refused number place) e =
+            ap (λ (n : ℕ). Refused n 0) (sym (given-twelve phrases letters numbers number place e))
+            ∙ ap (λ (c : Checked (List (Placed Entry))). seekAnswer phrases (toldAt 0 c)) (sym e)
+
+    pub seek-sized : (size : ℕ) → isFine (entriesGiven phrases letters numbers) ≡ true → size ≡ limited (seekSize phrases letters (rowsIn numbers))
+        → Bytes size ≡ seekAnswer phrases (toldAt 0 (entriesGiven phrases letters numbers))
+    unfolding toldAt seekAnswer found
+    seek-sized size h e =
+        let g = given-entries phrases letters numbers h in
+        let answer : Checked (List (Placed Entry)) → Wrote = λ c. seekAnswer phrases (toldAt 0 c) in
+        let sized : length (seekChunk (pointWidth phrases) (entriesIn (entriesPlaced (pointWidth phrases) (g .entries)))) ≡ seekSize phrases letters (rowsIn numbers) =
+        ap (λ (placed : List (Placed Entry)). length (seekChunk (pointWidth phrases) (entriesIn placed))) (sym (g .stand)) ∙ given-chunk-size h in
+        ap Bytes (e ∙ ap limited (sym sized)) ∙ ap answer (sym (g .placed))
+
+pub ruleset seek-answers = (seek-refused, seek-sized, flag-on, flag-off)

@@ -1,0 +1,22 @@
+-- The laws that the functions' proofs cite, each file resting on those above it.
+pub mod NumberBytes
+pub mod Cases
+pub mod RowsLeft
+pub mod RowIs
+pub mod RowsGiven
+pub mod Forming
+pub mod ListsInTurn
+pub mod GivenEntries
+pub mod ChunkOf
+pub mod Sizing
+pub mod Numbers
+pub mod RowStores
+pub mod Filling
+pub mod Overlaps
+pub mod ChunkStores
+pub mod Reaching
+pub mod Finding
+pub mod Naming
+pub mod Holding
+pub mod Judging
+pub mod PlacesAre

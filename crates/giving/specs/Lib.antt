@@ -1,0 +1,2 @@
+-- The definitions of this crate, each file over those above it.
+pub mod Giving
