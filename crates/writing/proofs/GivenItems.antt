@@ -86,7 +86,7 @@ sound-numbered : (allowed : Bool) (gate : ℕ) → Numbered (soundGiven allowed 
 unfolding soundGiven
 sound-numbered allowed gate = fault-numbered _ 21 _ (omega arith) (fault-numbered _ 21 _ (omega arith) (fault-numbered _ 23 _ (omega arith) tt))
 
-event-numbered : (source : List ℕ) (event : Event) → Numbered (eventGiven source event)
+pub event-numbered : (source : List ℕ) (event : Event) → Numbered (eventGiven source event)
 unfolding eventGiven
 event-numbered source Nop = tt
 event-numbered source (Note channel key gate) = sound-numbered _ gate
@@ -362,7 +362,7 @@ module _ (voice : Voice) (source : List ℕ) (duration word : ℕ) (there : isFi
       pub given-fits : eventFits voice source event ≡ true
       given-fits = ap (eventFits voice source) is ∙ an-event .fits
 
-      event-bytes : givenBytes (itemGiven voice source duration word) ≡ timedBytes source duration event
+      pub event-bytes : givenBytes (itemGiven voice source duration word) ≡ timedBytes source duration event
       unfolding givenBytes timedBytes
       event-bytes = ap givenBytes (the-item .1) ∙ ap (itemBytes handyPhone) (an-event .is) ∙ ap (timedBytes source duration) (sym is)
 

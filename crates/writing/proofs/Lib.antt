@@ -8,6 +8,8 @@ pub mod Contents
 pub mod Items
 pub mod WordCases
 pub mod GivenItems
+pub mod Lengths
+pub mod ShortNotes
 pub mod Limits
 pub mod Listed
 pub mod Checking

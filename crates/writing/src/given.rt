@@ -14,6 +14,8 @@ use super::fits::exclusive_fits;
 use super::fits::value_fits;
 use super::item::item_size;
 use super::item::write_item;
+use super::short::is_narrow;
+use super::short::write_short;
 use super::word::event_in;
 use super::word::is_exact;
 use super::word::is_kind;
@@ -38,7 +40,7 @@ fn sound_fault(allowed: bool, gate: u32) -> u32
     0
 }
 
-fn is_key(key: u8) -> bool
+pub fn is_key(key: u8) -> bool
     ensures { λ r. ⌜ r ≡ ((key ≤? 63) and isNote (key % 16)) ⌝ }
 {
     if 63 < key {
@@ -147,6 +149,11 @@ pub fn write_given(
     ensures { λ r. ⌜ r ≡ at + length (givenBytes (itemGiven voice (now (source .entry)) duration word)) ⌝ }
     ensures { λ _. ⌜ now (out .exit) ≡ sets (now (out .entry)) at (givenBytes (itemGiven voice (now (source .entry)) duration word)) ⌝ }
 {
+    if duration < 128 {
+        if is_narrow(word) {
+            return write_short(duration, word, out, at);
+        }
+    }
     if word / 0x8000000 == 16 {
         return write_end_mark(out, at);
     }

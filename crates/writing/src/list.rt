@@ -7,16 +7,18 @@ ghost use lib.Seq.{sets};
 ghost use Rattle.model.specs.Item.{isFine};
 ghost use Rattle.model.specs.Writing.{itemsGiven};
 ghost use Rattle.model.specs.Answer.{writeItemsOf, writeAnswer, writeRoom};
-ghost use Rattle.writing.specs.Parts.{sizeAnswer, listBytes};
-use super::given::given_size;
+ghost use Rattle.writing.specs.Parts.{CheckedTo, sizeAnswer, listBytes};
 use super::given::item_fault;
 use super::given::write_given;
 use super::limit::within_limit;
+use super::measure::given_length;
 use model::Voice;
 use model::Wrote;
 
-// The first item that is at fault, or how many bytes all of them take, 65,537 standing for more than 65,536.
-pub fn check_items(voice: Voice, source: &[u8], items: &[u32]) -> Wrote
+// The first item that is at fault, or how many bytes all of them take, 65,537 standing for more than 65,536. So many items before have no fault, and take so
+// many bytes.
+pub fn check_from(voice: Voice, source: &[u8], items: &[u32], checked: usize, taken: usize) -> Wrote
+    requires { ⌜ CheckedTo voice (now source) (now items) checked taken ⌝ }
     ensures { λ r. ⌜ r ≡ sizeAnswer (itemsGiven voice (now (source .entry)) (now (items .entry))) ⌝ }
 {
     let count = items.len() / 2;
@@ -26,22 +28,28 @@ pub fn check_items(voice: Voice, source: &[u8], items: &[u32]) -> Wrote
             place: 0,
         };
     }
-    let mut size: usize = 0;
-    let mut i: usize = 0;
+    let mut size = within_limit(taken);
+    let mut i = checked;
     while i < count {
         let duration = items[2 * i];
         let word = items[2 * i + 1];
-        let fault = item_fault(voice, source, duration, word);
-        if fault != 0 {
+        let length = given_length(voice, source, duration, word);
+        if length == 0 {
             return Wrote::Refused {
-                number: fault,
+                number: item_fault(voice, source, duration, word),
                 place: i,
             };
         }
-        size = within_limit(size + given_size(duration, word));
+        size = within_limit(size + length);
         i += 1;
     }
     Wrote::Bytes { length: size }
+}
+
+pub fn check_items(voice: Voice, source: &[u8], items: &[u32]) -> Wrote
+    ensures { λ r. ⌜ r ≡ sizeAnswer (itemsGiven voice (now (source .entry)) (now (items .entry))) ⌝ }
+{
+    check_from(voice, source, items, 0, 0)
 }
 
 // Items that can be written, at a place with room for them. Returns the place after them.

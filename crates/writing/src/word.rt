@@ -10,21 +10,18 @@ pub fn event_in(word: u32) -> Event
     ensures { λ r. ⌜ r ≡ eventIn word ⌝ }
 {
     let kind = word / 0x8000000;
-    let channel = (word / 0x2000000 % 4) as u8;
-    let value = (word / 0x20000 % 256) as u8;
-    let gate = word / 4 % 0x8000;
     if kind == 1 {
         return Event::Note {
-            channel,
-            key: value,
-            gate,
+            channel: (word / 0x2000000 % 4) as u8,
+            key: (word / 0x20000 % 256) as u8,
+            gate: word / 4 % 0x8000,
         };
     }
     if kind == 2 {
         return Event::Wave {
-            channel,
-            number: value,
-            gate,
+            channel: (word / 0x2000000 % 4) as u8,
+            number: (word / 0x20000 % 256) as u8,
+            gate: word / 4 % 0x8000,
         };
     }
     if kind == 14 {
@@ -41,8 +38,8 @@ pub fn event_in(word: u32) -> Event
     }
     Event::Control {
         kind: kind as u8,
-        channel,
-        value,
+        channel: (word / 0x2000000 % 4) as u8,
+        value: (word / 0x20000 % 256) as u8,
     }
 }
 

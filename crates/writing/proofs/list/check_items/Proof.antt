@@ -1,117 +1,18 @@
-use native.Mathlib.Omega.{arith}
-use mathlib.Core.Path.{refl}
+use Rattle.writing.proofs.Checking.{checked-none}
 use borrow.Author.Needs.{needs}
-use Prim.Native.Nat.{_-_}
-use Rattle.writing.proofs.Checking.{Checking, checks, check-goes-on}
 use Rattle.writing.proofs.list.check_items.Statement.{statement}
 use Rattle.writing.proofs.list.check_items.Tie as tie
 use Rattle.writing.proofs.list.check_items.Reads as reads
 use Rattle.writing.proofs.list.check_items.Lts as lts
-use Rattle.writing.proofs.given.given_size.Reads as given-size-reads
-use Rattle.writing.proofs.given.item_fault.Reads as item-fault-reads
-use Rattle.writing.proofs.limit.within_limit.Reads as within-limit-reads
+use Rattle.writing.proofs.list.check_from.Reads as check-from-reads
 
-abbrev Inv-loop : tie.InvT-loop
-Inv-loop voice source items count size₀ i₀ size i = Checking voice source items count size i
+-- src/list.rt:52:5
+check-from-requires : tie.Need-check-from-requires
+check-from-requires c κs = search (needs, checked-none)
 
-abbrev μ-loop : tie.MeasureT-loop
-μ-loop voice source items count size₀ i₀ size i = count - i
-
--- src/list.rt:24:9
-returns : tie.Need-returns Inv-loop μ-loop
-returns c = search (needs, checks)
-
--- src/list.rt:31:5
-loop-holds : tie.Need-loop-holds Inv-loop μ-loop
-loop-holds c = search (needs, checks)
-
--- src/list.rt:32:30
-mul-duration : tie.Need-mul-duration Inv-loop μ-loop
-mul-duration c = search (needs, checks)
-
--- src/list.rt:32:24
-mul-duration-2 : tie.Need-mul-duration-2 Inv-loop μ-loop
-mul-duration-2 c = search (needs, checks)
-
--- src/list.rt:32:24
-shared-slice-read-duration : tie.Need-shared-slice-read-duration Inv-loop μ-loop
-shared-slice-read-duration c = search (needs, checks)
-
--- src/list.rt:33:26
-mul-word : tie.Need-mul-word Inv-loop μ-loop
-mul-word c = search (needs, checks)
-
--- src/list.rt:33:26
-add-word : tie.Need-add-word Inv-loop μ-loop
-add-word c = search (needs, checks)
-
--- src/list.rt:33:20
-mul-word-2 : tie.Need-mul-word-2 Inv-loop μ-loop
-mul-word-2 c = search (needs, checks)
-
--- src/list.rt:33:20
-shared-slice-read-word : tie.Need-shared-slice-read-word Inv-loop μ-loop
-shared-slice-read-word c = search (needs, checks)
-
--- src/list.rt:34:13
-item-fault-requires : tie.Need-item-fault-requires Inv-loop μ-loop
-item-fault-requires c κs = search (needs, checks)
-
--- src/list.rt:36:13
-returns-2 : tie.Need-returns-2 Inv-loop μ-loop
-returns-2 c = search (needs, checks)
-
--- src/list.rt:41:36
-given-size-requires : tie.Need-given-size-requires Inv-loop μ-loop
-given-size-requires c κs = search (needs, checks)
-
--- src/list.rt:41:29
-add-within-limit : tie.Need-add-within-limit Inv-loop μ-loop
-add-within-limit c = search (needs, checks)
-
--- src/list.rt:41:9
-within-limit-requires : tie.Need-within-limit-requires Inv-loop μ-loop
-within-limit-requires c κs = search (needs, checks)
-
--- src/list.rt:42:9
-add-i : tie.Need-add-i Inv-loop μ-loop
-add-i c = search (needs, checks)
-
--- src/list.rt:31:5
-loop-less : tie.Need-loop-less Inv-loop μ-loop
-loop-less c = search (needs, checks)
-
--- src/list.rt:31:5
-loop-again : tie.Need-loop-again Inv-loop μ-loop
-loop-again c =
-    let l = c .before .before .before .before .before .before .before in
-    check-goes-on _ _ _ _ refl _ _ (l .loop .inv) (omega arith) _ (c .before .before .before .item-fault .ensures) _ _ (c .before .before .if2 .left) (c .before .given-size .ensures .0) (c .within-limit .ensures)
-
--- src/list.rt:19:1
-returns-3 : tie.Need-returns-3 Inv-loop μ-loop
-returns-3 c = search (needs, checks)
+-- src/list.rt:49:1
+returns : tie.Need-returns
+returns c = search needs
 
 pub check-items-spec : {M : Type 1} → statement M
-check-items-spec =
-    tie.close
-    (tie.spec
-    Inv-loop
-    μ-loop
-    returns
-    loop-holds
-    mul-duration
-    mul-duration-2
-    shared-slice-read-duration
-    mul-word
-    add-word
-    mul-word-2
-    shared-slice-read-word
-    item-fault-requires
-    returns-2
-    given-size-requires
-    add-within-limit
-    within-limit-requires
-    add-i
-    loop-less
-    loop-again
-    returns-3)
+check-items-spec = tie.close (tie.spec check-from-requires returns)

@@ -1,0 +1,124 @@
+use native.Mathlib.Omega.{arith}
+use mathlib.Core.Path.{refl}
+use borrow.Author.Needs.{needs}
+use Rattle.writing.proofs.Checking.{Checking, checks, check-faulty, check-goes-on}
+use Prim.Native.Nat.{_-_}
+use Rattle.writing.proofs.list.check_from.Statement.{statement}
+use Rattle.writing.proofs.list.check_from.Tie as tie
+use Rattle.writing.proofs.list.check_from.Reads as reads
+use Rattle.writing.proofs.list.check_from.Lts as lts
+use Rattle.writing.proofs.given.item_fault.Reads as item-fault-reads
+use Rattle.writing.proofs.limit.within_limit.Reads as within-limit-reads
+use Rattle.writing.proofs.measure.given_length.Reads as given-length-reads
+
+abbrev Inv-loop : tie.InvT-loop
+Inv-loop voice source items checked taken count size₀ i₀ size i = Checking voice source items size i
+
+abbrev μ-loop : tie.MeasureT-loop
+μ-loop voice source items checked taken count size₀ i₀ size i = count - i
+
+-- src/list.rt:26:9
+returns : tie.Need-returns Inv-loop μ-loop
+returns c = search (needs, checks)
+
+-- src/list.rt:31:9
+within-limit-requires : tie.Need-within-limit-requires Inv-loop μ-loop
+within-limit-requires c κs = search (needs, checks)
+
+-- src/list.rt:33:5
+loop-holds : tie.Need-loop-holds Inv-loop μ-loop
+loop-holds c = search (needs, checks)
+
+-- src/list.rt:34:30
+mul-duration : tie.Need-mul-duration Inv-loop μ-loop
+mul-duration c = search (needs, checks)
+
+-- src/list.rt:34:24
+mul-duration-2 : tie.Need-mul-duration-2 Inv-loop μ-loop
+mul-duration-2 c = search (needs, checks)
+
+-- src/list.rt:34:24
+shared-slice-read-duration : tie.Need-shared-slice-read-duration Inv-loop μ-loop
+shared-slice-read-duration c = search (needs, checks)
+
+-- src/list.rt:35:26
+mul-word : tie.Need-mul-word Inv-loop μ-loop
+mul-word c = search (needs, checks)
+
+-- src/list.rt:35:26
+add-word : tie.Need-add-word Inv-loop μ-loop
+add-word c = search (needs, checks)
+
+-- src/list.rt:35:20
+mul-word-2 : tie.Need-mul-word-2 Inv-loop μ-loop
+mul-word-2 c = search (needs, checks)
+
+-- src/list.rt:35:20
+shared-slice-read-word : tie.Need-shared-slice-read-word Inv-loop μ-loop
+shared-slice-read-word c = search (needs, checks)
+
+-- src/list.rt:36:13
+given-length-requires : tie.Need-given-length-requires Inv-loop μ-loop
+given-length-requires c κs = search (needs, checks)
+
+-- src/list.rt:39:25
+item-fault-requires : tie.Need-item-fault-requires Inv-loop μ-loop
+item-fault-requires c κs = search (needs, checks)
+
+-- src/list.rt:38:13
+returns-2 : tie.Need-returns-2 Inv-loop μ-loop
+returns-2 c =
+    let l = c .before .before .before .before .before .before in
+    check-faulty _ _ _ _ refl (λ e. omega arith) _ _ (l .loop .inv) (omega arith) _ (c .before .before .given-length .ensures .0) (search needs) _ (c .item-fault .ensures)
+
+-- src/list.rt:43:29
+add-within-limit : tie.Need-add-within-limit Inv-loop μ-loop
+add-within-limit c = search (needs, checks)
+
+-- src/list.rt:43:9
+within-limit-requires-2 : tie.Need-within-limit-requires-2 Inv-loop μ-loop
+within-limit-requires-2 c κs = search (needs, checks)
+
+-- src/list.rt:44:9
+add-i : tie.Need-add-i Inv-loop μ-loop
+add-i c = search (needs, checks)
+
+-- src/list.rt:33:5
+loop-less : tie.Need-loop-less Inv-loop μ-loop
+loop-less c = search (needs, checks)
+
+-- src/list.rt:33:5
+loop-again : tie.Need-loop-again Inv-loop μ-loop
+loop-again c =
+    let l = c .before .before .before .before .before .before in
+    check-goes-on _ _ _ _ refl (λ e. omega arith) _ _ (l .loop .inv) (omega arith) _ (c .before .before .given-length .ensures .0) _ (λ e. omega arith) (c .within-limit2 .ensures)
+
+-- src/list.rt:20:1
+returns-3 : tie.Need-returns-3 Inv-loop μ-loop
+returns-3 c = search (needs, checks)
+
+pub check-from-spec : {M : Type 1} → statement M
+check-from-spec =
+    tie.close
+    (tie.spec
+    Inv-loop
+    μ-loop
+    returns
+    within-limit-requires
+    loop-holds
+    mul-duration
+    mul-duration-2
+    shared-slice-read-duration
+    mul-word
+    add-word
+    mul-word-2
+    shared-slice-read-word
+    given-length-requires
+    item-fault-requires
+    returns-2
+    add-within-limit
+    within-limit-requires-2
+    add-i
+    loop-less
+    loop-again
+    returns-3)
