@@ -26,7 +26,7 @@ use Rattle.model.proofs.Tests.{by-test, if-all, if-true, if-false, flag-on, fla
 use Rattle.writing.specs.Parts.{limited, faultIn, listBytes, sizeAnswer}
 use Rattle.writing.proofs.GivenItems.{Numbered, then-numbered}
 use Rattle.writing.proofs.Limits.{limited-adds}
-use Rattle.entries.specs.Answers.{entriesIn, seekAnswer}
+use Rattle.entries.specs.Rows.{entriesIn}
 use Rattle.entries.specs.Places.{isPlace}
 use Rattle.entries.specs.Rules.{rulesHold}
 use Rattle.entries.proofs.PlacesAre.{rules-are}

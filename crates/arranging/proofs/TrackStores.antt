@@ -26,7 +26,7 @@ use Rattle.model.proofs.Parts.{part-length}
 use Rattle.model.proofs.Stores.{sets-append}
 use Rattle.model.proofs.Tests.{if-true, if-false, by-test}
 use Rattle.writing.specs.Parts.{listBytes}
-use Rattle.entries.specs.Answers.{entriesIn}
+use Rattle.entries.specs.Rows.{entriesIn}
 use Rattle.entries.proofs.Overlaps.{sets-later}
 use Rattle.arranging.specs.Stages.{givenOf, trackGivenBytes, seekOf, insideOf}
 use Rattle.entries.proofs.NumberBytes.{number-bytes-length}

@@ -22,7 +22,7 @@ use Rattle.model.specs.declared.Counted.the-variants as counted
 use Rattle.model.specs.declared.Wrote.{Wrote}
 use Rattle.model.specs.declared.Wrote.the-variants as wrote
 use Rattle.writing.specs.Parts.{limited, listBytes}
-use Rattle.entries.specs.Answers.{entriesIn}
+use Rattle.entries.specs.Rows.{entriesIn}
 use Rattle.entries.specs.Places.{isPlace}
 use Rattle.entries.specs.Rules.{rulesHold}
 

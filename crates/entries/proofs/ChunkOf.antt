@@ -1,4 +1,4 @@
--- The bytes of rows are those of the entries that they give, and so is the size of their chunk; what is answered of it.
+-- The bytes of rows are those of the entries that they give, and so is the size of their chunk.
 use Prim.Native.Nat.{ℕ}
 use mathlib.Core.List.{List, [], _∷_, _++_}
 use mathlib.Core.Bool.{Bool, true, false, false≢true}
@@ -17,8 +17,7 @@ use Rattle.model.specs.declared.Wrote.the-variants.{Bytes, Refused}
 use Rattle.model.proofs.Tests.{flag-on, flag-off}
 use Rattle.writing.specs.Parts.{limited}
 use Rattle.entries.specs.declared.row.Row.{Row}
-use Rattle.entries.specs.Answers.{entriesIn, seekAnswer}
-use Rattle.entries.specs.Rows.{rowsIn, dataOf, rowBytes, rowsBytes, seekSize}
+use Rattle.entries.specs.Rows.{rowsIn, dataOf, rowBytes, rowsBytes, seekSize, entriesIn}
 use Rattle.entries.proofs.RowIs.{RowIs, row-tag}
 use Rattle.entries.proofs.GivenEntries.{RowsAre, given-entries, given-twelve}
 
@@ -55,25 +54,3 @@ module _ (phrases : Bool) (letters : List ℕ) where
     given-chunk-size h =
         let g = given-entries phrases letters numbers h in
         ap (λ (entries : List Entry). length (seekChunk (pointWidth phrases) entries)) (g .only) ∙ chunk-size (rowsIn numbers) (g .entries) (g .are)
-
-    pub seek-refused : isFine (entriesGiven phrases letters numbers) ≡ false → Refused 12 0 ≡ seekAnswer phrases (toldAt 0 (entriesGiven phrases letters numbers))
-    unfolding isFine toldAt seekAnswer
-    seek-refused h = go (entriesGiven phrases letters numbers) refl
-      where
-        go : (given : Checked (List (Placed Entry))) → entriesGiven phrases letters numbers ≡ given → Refused 12 0 ≡ seekAnswer phrases (toldAt 0 (entriesGiven phrases letters numbers))
-        go (fine placed) e = absurd (false≢true (sym h ∙ ap isFine e))
-        go (refused number place) e =
-            ap (λ (n : ℕ). Refused n 0) (sym (given-twelve phrases letters numbers number place e))
-            ∙ ap (λ (c : Checked (List (Placed Entry))). seekAnswer phrases (toldAt 0 c)) (sym e)
-
-    pub seek-sized : (size : ℕ) → isFine (entriesGiven phrases letters numbers) ≡ true → size ≡ limited (seekSize phrases letters (rowsIn numbers))
-        → Bytes size ≡ seekAnswer phrases (toldAt 0 (entriesGiven phrases letters numbers))
-    unfolding toldAt seekAnswer found
-    seek-sized size h e =
-        let g = given-entries phrases letters numbers h in
-        let answer : Checked (List (Placed Entry)) → Wrote = λ c. seekAnswer phrases (toldAt 0 c) in
-        let sized : length (seekChunk (pointWidth phrases) (entriesIn (entriesPlaced (pointWidth phrases) (g .entries)))) ≡ seekSize phrases letters (rowsIn numbers) =
-        ap (λ (placed : List (Placed Entry)). length (seekChunk (pointWidth phrases) (entriesIn placed))) (sym (g .stand)) ∙ given-chunk-size h in
-        ap Bytes (e ∙ ap limited (sym sized)) ∙ ap answer (sym (g .placed))
-
-pub ruleset seek-answers = (seek-refused, seek-sized, flag-on, flag-off)

@@ -14,8 +14,7 @@ use Rattle.model.specs.ChunkBytes.{numberBytes, chunkBytes}
 use Rattle.model.specs.SeekBytes.{furtherBytes, seekBytes, entriesGiven}
 use Rattle.model.specs.Arrangement.{seekChunk}
 use Rattle.entries.specs.declared.row.Row.{Row}
-use Rattle.entries.specs.Answers.{entriesIn}
-use Rattle.entries.specs.Rows.{rowAt, rowsIn, rowsBytes}
+use Rattle.entries.specs.Rows.{rowAt, rowsIn, rowsBytes, entriesIn}
 use Rattle.entries.proofs.RowsLeft.{left, left-all, left-next, left-over}
 use Rattle.entries.proofs.GivenEntries.{RowsAre, given-entries}
 use Rattle.entries.proofs.ChunkOf.{rows-bytes}

@@ -12,8 +12,7 @@ use Rattle.model.specs.SeekBytes.{entryBytes, entriesPlaced, entriesFrom, entri
 use Rattle.model.proofs.Tests.{if-all}
 use Rattle.model.proofs.Outcomes.{bind-fine, fine-some}
 use Rattle.entries.specs.declared.row.Row.{Row}
-use Rattle.entries.specs.Answers.{entriesIn}
-use Rattle.entries.specs.Rows.{rowsIn, rowGiven}
+use Rattle.entries.specs.Rows.{rowsIn, rowGiven, entriesIn}
 use Rattle.entries.proofs.RowIs.{RowIs, Given, row-gives, row-is}
 use Rattle.entries.proofs.RowsGiven.{ahead, rowsGiven, from-rows}
 use Rattle.entries.proofs.ListsInTurn.{in-turn-all}

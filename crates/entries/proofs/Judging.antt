@@ -1,11 +1,11 @@
 -- The rules over entries and over their rows are the same: each is kept, or refused with its number.
 use Prim.Native.Nat.{ℕ, _+_}
 use mathlib.Core.List.{List, [], _∷_}
-use mathlib.Core.Bool.{Bool, true, false, not}
+use mathlib.Core.Bool.{Bool, true, false, not, false≢true}
 use mathlib.Core.Option.{Option, none, some}
 use mathlib.Core.Path.{_≡_, refl, sym, _∙_, ap, subst}
 use lib.ListN.{length}
-use Rattle.model.specs.Words.{if_then_else_, _and_, _or_, _<?_, _≡?_, isSome, _otherwise_, _orElse_, firstSaid, Placed, placedFrom, Checked, Checked.refused, passed, _>>_, allPass}
+use Rattle.model.specs.Words.{if_then_else_, _and_, _or_, _<?_, _≡?_, isSome, _otherwise_, _orElse_, firstSaid, Placed, placedFrom, Checked, Checked.fine, Checked.refused, passed, _>>=_, _>>_, allPass}
 use Rattle.model.specs.Item.{isFine, found}
 use Rattle.model.specs.Seek.{Entry, Entry.start, Entry.stop, Entry.phrase, Entry.order, startIn, phraseIn, orderIn, startPoint, phraseOf, orderList}
 use Rattle.model.specs.Points.{pointHolds, pointsHold, isPosition, lettersNamed, lettersHold, orderHolds}
@@ -14,42 +14,45 @@ use Rattle.model.specs.SeekBytes.{entryBytes, entriesPlaced, entriesGiven}
 use Rattle.model.proofs.Tests.{by-test, if-true, if-false, flag-on, flag-off}
 use Rattle.seek.proofs.Holding.{not-over}
 use Rattle.writing.specs.Parts.{faultIn}
+use Rattle.entries.specs.declared.points.Judged.{Judged}
 use Rattle.entries.specs.declared.row.Row.{Row}
 use Rattle.entries.specs.Places.{isPlace}
 use Rattle.entries.specs.Rows.{rowsIn}
-use Rattle.entries.specs.Rules.{rulesHold, startedIn, hasList, isPoint, rowHolds, rowsHold, isNamed, allNamed, lettersFault}
+use Rattle.entries.specs.Rules.{rulesHold, seekStage, startedIn, hasList, isPoint, rowHolds, rowsHold, isNamed, allNamed, lettersFault, orderFault, Says, Tells}
 use Rattle.entries.proofs.RowIs.{RowIs, letter-byte}
-use Rattle.entries.proofs.GivenEntries.{RowsAre, given-entries}
+use Rattle.entries.proofs.GivenEntries.{RowsAre, given-entries, given-twelve}
+use Rattle.entries.proofs.Reaching.{front-none}
+use Rattle.entries.proofs.Holding.{and-true, and-false}
 
 -- JUDGEMENTS
 
-abbrev Judged : ℕ → Bool → Checked (Unit {0}) → Type 0
-Judged number true one = one ≡ passed
-Judged number false one = (place : ℕ) × (one ≡ refused number place)
+abbrev Verdict : ℕ → Bool → Checked (Unit {0}) → Type 0
+Verdict number true one = one ≡ passed
+Verdict number false one = (place : ℕ) × (one ≡ refused number place)
 
-judged-and : (number : ℕ) (a b : Bool) (one more : Checked (Unit {0})) → Judged number a one → Judged number b more → Judged number (a and b) (one >> more)
+judged-and : (number : ℕ) (a b : Bool) (one more : Checked (Unit {0})) → Verdict number a one → Verdict number b more → Verdict number (a and b) (one >> more)
 unfolding _and_ _>>_
-judged-and number true b one more h g = subst (λ (c : Checked (Unit {0})). Judged number b (c >> more)) (sym h) g
+judged-and number true b one more h g = subst (λ (c : Checked (Unit {0})). Verdict number b (c >> more)) (sym h) g
 judged-and number false b one more h g = (h .0, ap (λ (c : Checked (Unit {0})). c >> more) (h .1))
 
 -- a judgement that stood before
-judged-again : (number : ℕ) (a b : Bool) (one more : Checked (Unit {0})) → Judged number b one → Judged number (a or b) more → Judged number b (one >> more)
+judged-again : (number : ℕ) (a b : Bool) (one more : Checked (Unit {0})) → Verdict number b one → Verdict number (a or b) more → Verdict number b (one >> more)
 unfolding _or_ _>>_
 judged-again number true true one more h g = ap (λ (c : Checked (Unit {0})). c >> more) h ∙ g
 judged-again number false true one more h g = ap (λ (c : Checked (Unit {0})). c >> more) h ∙ g
 judged-again number a false one more h g = (h .0, ap (λ (c : Checked (Unit {0})). c >> more) (h .1))
 
-judged-if : (number place : ℕ) (b : Bool) → Judged number b (if b then passed else refused number place)
+judged-if : (number place : ℕ) (b : Bool) → Verdict number b (if b then passed else refused number place)
 unfolding if_then_else_
 judged-if number place true = refl
 judged-if number place false = (place, refl)
 
-judged-fault : (number : ℕ) (b : Bool) (one : Checked (Unit {0})) → Judged number b one → faultIn one ≡ (if b then 0 else number)
+judged-fault : (number : ℕ) (b : Bool) (one : Checked (Unit {0})) → Verdict number b one → faultIn one ≡ (if b then 0 else number)
 unfolding faultIn if_then_else_
 judged-fault number true one h = ap faultIn h
 judged-fault number false one h = ap faultIn (h .1)
 
-fault-then : (number : ℕ) (b : Bool) (one more : Checked (Unit {0})) → Judged number b one → faultIn (one >> more) ≡ (if b then faultIn more else number)
+fault-then : (number : ℕ) (b : Bool) (one more : Checked (Unit {0})) → Verdict number b one → faultIn (one >> more) ≡ (if b then faultIn more else number)
 unfolding faultIn if_then_else_ _>>_
 fault-then number true one more h = ap (λ (c : Checked (Unit {0})). faultIn (c >> more)) h
 fault-then number false one more h = ap (λ (c : Checked (Unit {0})). faultIn (c >> more)) (h .1)
@@ -99,16 +102,6 @@ module _ (size : Entry → ℕ) (letters : List ℕ) where
 
   -- POINTS AND PHRASES
 
-  and-true : (a : Bool) → (a and true) ≡ a
-  unfolding _and_
-  and-true true = refl
-  and-true false = refl
-
-  and-false : (a : Bool) → (a and false) ≡ false
-  unfolding _and_
-  and-false true = refl
-  and-false false = refl
-
   module _ (phrases : Bool) (items : List ℕ) (started listed : ℕ) (point : ℕ → Bool) (same : (value : ℕ) → point value ≡ isPoint phrases items listed value) where
     entry-holds : (row : Row) (entry : Entry) → RowIs letters row entry → pointHolds (isPlace items) point started entry ≡ rowHolds phrases items started listed row
     unfolding pointHolds rowHolds if_then_else_ _and_
@@ -117,13 +110,13 @@ module _ (size : Entry → ℕ) (letters : List ℕ) where
         let k = is .0 in
         let v = is .1 in
         by-test (row .from <? started)
-        (λ early. rw (k, v, early) (and-false (point (row .from))))
-        (λ early. rw (k, v, early) (and-true (point (row .from)) ∙ same (row .from)))
+        (λ early. rw (k, v, early) (and-false (point (row .from)) _ refl))
+        (λ early. rw (k, v, early) (and-true (point (row .from)) _ refl ∙ same (row .from)))
     entry-holds row (phrase letter from to) is = let k = is .0 in let a = is .2 in let b = is .3 in rw (k, a, b)
     entry-holds row (order others) is = let k = is .0 in rw k
 
     points-judged : (rows : List Row) (entries : List Entry) (at : ℕ) → RowsAre letters rows entries
-        → Judged 13 (rowsHold phrases items started listed rows)
+        → Verdict 13 (rowsHold phrases items started listed rows)
         (allPass (λ entry. if pointHolds (isPlace items) point started (entry .what) then passed else refused 13 (entry .place)) (placedFrom size at entries))
     unfolding allPass placedFrom rowsHold
     points-judged [] [] at are = refl
@@ -131,14 +124,14 @@ module _ (size : Entry → ℕ) (letters : List ℕ) where
     points-judged (row ∷ rows) [] at are = absurd are
     points-judged (row ∷ rows) (entry ∷ entries) at are =
         judged-and 13 (rowHolds phrases items started listed row) (rowsHold phrases items started listed rows) _ _
-        (subst (λ (b : Bool). Judged 13 b (if pointHolds (isPlace items) point started entry then passed else refused 13 at)) (entry-holds row entry (are .0))
+        (subst (λ (b : Bool). Verdict 13 b (if pointHolds (isPlace items) point started entry then passed else refused 13 at)) (entry-holds row entry (are .0))
         (judged-if 13 at (pointHolds (isPlace items) point started entry)))
         (points-judged rows entries _ (are .1))
 
   -- LETTERS
 
   module _ (all : List (Placed Entry)) (rows-all : List Row) (same : (wanted : ℕ) → isSome (phraseOf wanted all) ≡ isNamed wanted rows-all) where
-    letters-judged : (list : List ℕ) (at : ℕ) → Judged 14 (allNamed rows-all list) (lettersNamed all at list)
+    letters-judged : (list : List ℕ) (at : ℕ) → Verdict 14 (allNamed rows-all list) (lettersNamed all at list)
     unfolding lettersNamed allNamed if_then_else_ _and_
     letters-judged [] at = refl
     letters-judged (letter ∷ list) at =
@@ -147,7 +140,7 @@ module _ (size : Entry → ℕ) (letters : List ℕ) where
         (λ h. let k = same letter ∙ h in rw (h, k) (at, refl))
 
     lists-judged : (rows : List Row) (entries : List Entry) (at : ℕ) → RowsAre letters rows entries
-        → Judged 14 (not (hasList rows) or allNamed rows-all letters) (allPass (λ entry. lettersHold all (entry .place) (entry .what)) (placedFrom size at entries))
+        → Verdict 14 (not (hasList rows) or allNamed rows-all letters) (allPass (λ entry. lettersHold all (entry .place) (entry .what)) (placedFrom size at entries))
     unfolding allPass placedFrom hasList lettersHold _or_ _>>_
     lists-judged [] [] at are = refl
     lists-judged [] (entry ∷ entries) at are = absurd are
@@ -170,6 +163,30 @@ position phrases items listed all e p value = rw p (ap (λ (n : ℕ). not (n <? 
 address : (phrases : Bool) (items : List ℕ) (listed : ℕ) → phrases ≡ false → (value : ℕ) → isPlace items value ≡ isPoint phrases items listed value
 unfolding isPoint if_then_else_
 address phrases items listed p value = rw p refl
+
+-- the stage of a track's entries: without form, and with it
+formless : (phrases : Bool) (letters numbers items : List ℕ) → isFine (entriesGiven phrases letters numbers) ≡ false → faultIn (seekStage phrases numbers items letters) ≡ 12
+unfolding seekStage isFine faultIn _>>=_
+formless phrases letters numbers items h = go (entriesGiven phrases letters numbers) refl
+  where
+    go : (o : Checked (List (Placed Entry))) → entriesGiven phrases letters numbers ≡ o → faultIn (seekStage phrases numbers items letters) ≡ 12
+    go (fine placed) e = absurd (false≢true (sym h ∙ ap isFine e))
+    go (refused number place) e = rw e (given-twelve phrases letters numbers number place e)
+
+then-same : (o : Checked (Unit {0})) (entries : List (Placed Entry)) → faultIn (o >> fine entries) ≡ faultIn o
+unfolding faultIn _>>_
+then-same (fine u) entries = refl
+then-same (refused number place) entries = refl
+
+stage-ruled : (phrases : Bool) (letters numbers items : List ℕ) → isFine (entriesGiven phrases letters numbers) ≡ true
+    → faultIn (seekStage phrases numbers items letters) ≡ faultIn (rulesHold phrases (isPlace items) (found (entriesGiven phrases letters numbers)))
+unfolding seekStage isFine found _>>=_
+stage-ruled phrases letters numbers items h = go (entriesGiven phrases letters numbers) refl
+  where
+    go : (o : Checked (List (Placed Entry))) → entriesGiven phrases letters numbers ≡ o
+        → faultIn (seekStage phrases numbers items letters) ≡ faultIn (rulesHold phrases (isPlace items) (found (entriesGiven phrases letters numbers)))
+    go (fine placed) e = rw e (then-same (rulesHold phrases (isPlace items) placed) placed)
+    go (refused number place) e = absurd (false≢true (sym (ap isFine e) ∙ h))
 
 list-fault : (ordered named : Bool) → _≡_ {A = ℕ} (if not ordered or named then 0 else 14) (if ordered then (if named then 0 else 14) else 0)
 unfolding if_then_else_ _or_
@@ -213,20 +230,20 @@ module _ (phrases : Bool) (letters numbers items : List ℕ) (given : isFine (en
       let g = given-entries phrases letters numbers given in
       ap (λ (l : List (Placed Entry)). isSome (phraseOf wanted l)) stand ∙ named-is size letters wanted rows (g .entries) 0 (g .are)
 
-  held : (point : ℕ → Bool) → ((value : ℕ) → point value ≡ isPoint phrases items listed value) → Judged 13 holds (pointsHold (isPlace items) point all)
+  held : (point : ℕ → Bool) → ((value : ℕ) → point value ≡ isPoint phrases items listed value) → Verdict 13 holds (pointsHold (isPlace items) point all)
   unfolding pointsHold
   held point same =
       let g = given-entries phrases letters numbers given in
       let rule : ℕ → Placed Entry → Checked (Unit {0}) = λ n entry. if pointHolds (isPlace items) point n (entry .what) then passed else refused 13 (entry .place) in
       let judged = points-judged size letters phrases items started listed point same rows (g .entries) 0 (g .are) in
-      subst (λ (n : ℕ). Judged 13 holds (allPass (rule n) all)) (sym start-is)
-      (subst (λ (l : List (Placed Entry)). Judged 13 holds (allPass (rule started) l)) (sym stand) judged)
+      subst (λ (n : ℕ). Verdict 13 holds (allPass (rule n) all)) (sym start-is)
+      (subst (λ (l : List (Placed Entry)). Verdict 13 holds (allPass (rule started) l)) (sym stand) judged)
 
-  in-order : Judged 14 (not (hasList rows) or allNamed rows letters) (orderHolds all)
+  in-order : Verdict 14 (not (hasList rows) or allNamed rows letters) (orderHolds all)
   unfolding orderHolds
   in-order =
       let g = given-entries phrases letters numbers given in
-      subst (λ (l : List (Placed Entry)). Judged 14 (not (hasList rows) or allNamed rows letters) (allPass (λ entry. lettersHold all (entry .place) (entry .what)) l)) (sym stand)
+      subst (λ (l : List (Placed Entry)). Verdict 14 (not (hasList rows) or allNamed rows letters) (allPass (λ entry. lettersHold all (entry .place) (entry .what)) l)) (sym stand)
       (lists-judged size letters all rows names rows (g .entries) 0 (g .are))
 
   in-stream : phrases ≡ false → faultIn (rulesHold phrases (isPlace items) all) ≡ (if holds then 0 else 13)
@@ -246,16 +263,32 @@ module _ (phrases : Bool) (letters numbers items : List ℕ) (given : isFine (en
       ∙ fault-then 13 holds _ (orderHolds all) (held (isPosition all) (position phrases items listed all list-is p))
       ∙ ap (λ (n : ℕ). if holds then n else 13) second
 
-  pub rules-points : rowsHold phrases items started listed (rowsIn numbers) ≡ false → 13 ≡ faultIn (rulesHold phrases (isPlace items) (found (entriesGiven phrases letters numbers)))
-  rules-points h =
-      by-test phrases (λ p. sym (with-phrases p ∙ if-false holds _ _ h)) (λ p. sym (in-stream p ∙ if-false holds _ _ h))
+  ruled : faultIn (rulesHold phrases (isPlace items) all) ≡ (if holds then orderFault phrases ordered rows letters else 13)
+  unfolding orderFault
+  ruled =
+      by-test phrases (λ p. with-phrases p ∙ ap (λ (n : ℕ). if holds then n else 13) (sym (if-true phrases _ _ p)))
+      (λ p. in-stream p ∙ ap (λ (n : ℕ). if holds then n else 13) (sym (if-false phrases _ _ p)))
 
-  module _ (h : rowsHold phrases items started listed (rowsIn numbers) ≡ true) where
-    pub rules-stream : phrases ≡ false → 0 ≡ faultIn (rulesHold phrases (isPlace items) (found (entriesGiven phrases letters numbers)))
-    rules-stream p = sym (in-stream p ∙ if-true holds _ _ h)
+  stage-fault : faultIn (seekStage phrases numbers items letters) ≡ (if holds then orderFault phrases ordered rows letters else 13)
+  stage-fault = stage-ruled phrases letters numbers items given ∙ ruled
 
-    pub rules-letters : (z : ℕ) → phrases ≡ true → z ≡ lettersFault ordered (rowsIn numbers) letters
-        → z ≡ faultIn (rulesHold phrases (isPlace items) (found (entriesGiven phrases letters numbers)))
-    rules-letters z p e = e ∙ sym (with-phrases p ∙ if-true holds _ _ h)
+-- TOLD WHILE THE ITEMS ARE CHECKED
+module _ (phrases : Bool) (letters numbers source items : List ℕ) (formed : Bool) (is : formed ≡ isFine (entriesGiven phrases letters numbers)) where
+  pub tells-formless : not formed ≡ true → Tells phrases letters numbers source items (record { fault = 12; front = record { index = 0; place = 0 } })
+  tells-formless h = record { front = front-none source items; so = λ all. sym (formless phrases letters numbers items (flag-off is h)) }
 
-pub ruleset rules = (rules-points, rules-stream, rules-letters, flag-on, flag-off)
+  module _ (on : not formed ≡ false) (ordered : Bool) (listed started : ℕ) (is-ordered : ordered ≡ hasList (rowsIn numbers))
+      (is-listed : listed ≡ (if ordered then length letters else 0)) (is-started : started ≡ startedIn (rowsIn numbers)) (judged : Judged)
+      (says : Says source items judged (rowsHold phrases items started listed (rowsIn numbers))) where
+    fault-is : faultIn (seekStage phrases numbers items letters)
+        ≡ (if rowsHold phrases items started listed (rowsIn numbers) then orderFault phrases ordered (rowsIn numbers) letters else 13)
+    fault-is = stage-fault phrases letters numbers items (flag-on is on) ordered listed started is-ordered is-listed is-started
+
+    pub tells-points : not (judged .holds) ≡ true → Tells phrases letters numbers source items (record { fault = 13; front = judged .front })
+    tells-points h = record { front = says .front; so = λ all. sym (fault-is ∙ if-false _ _ _ (flag-off (says .so all) h)) }
+
+    pub tells-order : (z : ℕ) → not (judged .holds) ≡ false → z ≡ orderFault phrases ordered (rowsIn numbers) letters
+        → Tells phrases letters numbers source items (record { fault = z; front = judged .front })
+    tells-order z h e = record { front = says .front; so = λ all. e ∙ sym (fault-is ∙ if-true _ _ _ (flag-on (says .so all) h)) }
+
+pub ruleset tellings = (tells-formless, tells-points, tells-order)

@@ -1,5 +1,4 @@
--- A cursor over given items: the invariant of `reach`'s loop, and what each way out of it and each turn makes of it; and a span, whose stop is looked for from its
--- start on.
+-- A cursor over given items: the front, what each way out of `advance`'s loop and each turn makes of it, and the invariant of `reach`'s loop.
 use Prim.Native.Nat.{ℕ, zero, suc, _+_, _-_, _*_, _/_, _<_, _≤_}
 use mathlib.Core.List.{List}
 use mathlib.Core.Bool.{Bool, true, false}
@@ -14,11 +13,12 @@ use native.Mathlib.Omega.{arith}
 use borrow.Author.Tests.{eq-eqb, ne-eqb, le-ltb, lt-ltb}
 use Rattle.model.specs.Words.{_and_, _or_, _≡?_}
 use Rattle.model.specs.Bytes.{_!_}
-use Rattle.model.specs.Points.{isSpan}
-use Rattle.model.proofs.Tests.{and-on, first-false, not-on, not-off}
-use Rattle.writing.specs.Parts.{givenSize}
+use Rattle.model.specs.Writing.{itemGiven}
+use Rattle.model.specs.declared.Voice.the-variants.{Score}
+use Rattle.writing.specs.Parts.{givenSize, givenBytes}
+use Rattle.writing.proofs.Checking.{length-sized, checked-none, checked-next, checked-on}
 use Rattle.entries.specs.declared.address.Cursor.{Cursor}
-use Rattle.entries.specs.Places.{isStart, isPlace, Stands, Tells}
+use Rattle.entries.specs.Places.{isStart, isPlace, Stands, Front, Came}
 
 -- STARTS
 
@@ -69,13 +69,7 @@ module _ (numbers : List ℕ) (count index : ℕ) where
               starts-here _ place _ address here ∙ sym (starts-here _ (place + size) _ address there)
         ]
 
--- THE CURSOR
-
-pub record Reaching (numbers : List ℕ) (count address index place : ℕ) : Type 0 where
-  pub few : index ≤ count
-  pub near : place < 4294967556
-  pub onward : (other : ℕ) → place ≤ other → isStart place (count - index) (drop (2 * index) numbers) other ≡ isPlace numbers other
-  pub left : isStart place (count - index) (drop (2 * index) numbers) address ≡ isPlace numbers address
+-- THE FRONT
 
 pub cursor-first : (numbers : List ℕ) → Stands numbers (record { index = 0; place = 0 })
 unfolding isPlace
@@ -86,42 +80,70 @@ cursor-first numbers =
       onward = λ other h. ap (λ (n : ℕ). isStart 0 n numbers other) (sub-zero (length numbers / 2));
     }
 
-module _ (numbers : List ℕ) (count : ℕ) (counted : count ≡ length numbers / 2) (address : ℕ) where
-  pub reach-starts : (from : Cursor) → Stands numbers from → from .place ≤ address → Reaching numbers count address (from .index) (from .place)
-  reach-starts from s h =
-      let on : (other : ℕ) → from .place ≤ other → isStart (from .place) (count - from .index) (drop (2 * from .index) numbers) other ≡ isPlace numbers other =
-      λ other h. ap (λ (n : ℕ). isStart (from .place) (n - from .index) (drop (2 * from .index) numbers) other) counted ∙ s .onward other h in
-      record { few = omega (arith, s .few); near = s .near; onward = on; left = on address h }
+pub front-none : (source numbers : List ℕ) → Front source numbers (record { index = 0; place = 0 })
+front-none source numbers = record { stands = cursor-first numbers; checked = checked-none Score source numbers }
+
+module _ (source numbers : List ℕ) (index place address : ℕ) (r : Front source numbers (record { index = index; place = place })) where
+  pub front-there : address ≤ place → Came source numbers (record { index = index; place = place }) address
+  front-there h = record { front = r; beyond = λ all before. absurd (omega arith) }
+
+  pub front-over : length numbers / 2 ≤ index → Came source numbers (record { index = index; place = place }) address
+  unfolding isStart
+  front-over past =
+      let none : 0 ≡ length numbers / 2 - index = omega arith in
+      record {
+        front = r;
+        beyond = λ all before.
+            sym (r .stands .onward address (omega arith))
+            ∙ ap (λ (n : ℕ). isStart place n (drop (2 * index) numbers) address) (sym none)
+            ∙ ne-eqb place address (λ e. omega arith);
+      }
+
+  module _ (here : index < length numbers / 2) (n : ℕ) (is : n ≡ length (givenBytes (itemGiven Score source (numbers ! (2 * index)) (numbers ! (2 * index + 1))))) where
+    pub front-faulty : n ≡ 0 → Came source numbers (record { index = index; place = place }) address
+    front-faulty none = record { front = r; beyond = λ all before. absurd (checked-on Score source numbers index place (r .checked) here n is all none) }
+
+    pub front-goes-on : (n ≡ 0 → ⊥) → n ≤ 260 → place < address → Fits w32 address → Front source numbers (record { index = index + 1; place = place + n })
+    front-goes-on some few before small =
+        let next : n ≡ size numbers (length numbers / 2) index = length-sized Score source _ _ n is some in
+        record {
+          stands = record {
+            few = omega arith;
+            near = omega arith;
+            onward = λ other h.
+                ap (λ (n : ℕ). after numbers (length numbers / 2) index (place + n) other) next
+                ∙ sym (starts-onward numbers (length numbers / 2) index here place other (omega arith))
+                ∙ r .stands .onward other (omega arith);
+          };
+          checked = checked-next Score source numbers index place (r .checked) here n is some;
+        }
+
+pub ruleset fronts = (front-there, front-over)
+
+-- FROM THE FIRST ITEM ON
+
+pub record Reaching (numbers : List ℕ) (count address index place : ℕ) : Type 0 where
+  pub near : place < 4294967556
+  pub left : isStart place (count - index) (drop (2 * index) numbers) address ≡ isPlace numbers address
+
+module _ (numbers : List ℕ) (count address : ℕ) where
+  pub reach-starts : count ≡ length numbers / 2 → Reaching numbers count address 0 0
+  unfolding isPlace
+  reach-starts counted = record { near = omega arith; left = ap (λ (n : ℕ). isStart 0 n numbers address) (sub-zero count ∙ counted) }
 
   module _ (index place : ℕ) (r : Reaching numbers count address index place) where
-    standing : Stands numbers (record { index = index; place = place })
-    standing =
-        record {
-          few = omega (arith, r .few);
-          near = r .near;
-          onward = λ other h. ap (λ (n : ℕ). isStart place (n - index) (drop (2 * index) numbers) other) (sym counted) ∙ r .onward other h;
-        }
-
-    pub reach-over : count ≤ index → Tells numbers (record { index = index; place = place }) address
+    pub reach-over : count ≤ index → (place ≡? address) ≡ isPlace numbers address
     unfolding isStart
     reach-over past =
-        let none : 0 ≡ count - index = omega arith in
-        record {
-          stands = standing;
-          told = sym (ap (λ (n : ℕ). isStart place n (drop (2 * index) numbers) address) none ∙ r .left);
-        }
+        let none : 0 ≡ count - index = omega arith in ap (λ (n : ℕ). isStart place n (drop (2 * index) numbers) address) none ∙ r .left
 
-    pub reach-there : address ≤ place → Tells numbers (record { index = index; place = place }) address
+    pub reach-there : address ≤ place → (place ≡? address) ≡ isPlace numbers address
     reach-there h =
-        record {
-          stands = standing;
-          told =
-              sym (r .left)
-              ∙ elim (decLt address place) [
-                | yes past ↦ starts-past _ place _ address past ∙ sym (ne-eqb place address (λ e. omega arith))
-                | no past ↦ let e : place ≡ address = omega arith in starts-here _ place _ address e ∙ sym (eq-eqb place address e)
-              ];
-        }
+        elim (decLt address place) [
+          | yes past ↦ ne-eqb place address (λ e. omega arith) ∙ sym (starts-past _ place _ address past)
+          | no past ↦ let e : place ≡ address = omega arith in eq-eqb place address e ∙ sym (starts-here _ place _ address e)
+        ]
+        ∙ r .left
 
     pub reach-goes-on : (more : ℕ) → index < count → place < address → Fits w32 address → (more ≡ givenSize (numbers ! (2 * index)) (numbers ! (2 * index + 1))) × (more ≤ 260)
         → Reaching numbers count address (index + 1) (place + more)
@@ -129,12 +151,7 @@ module _ (numbers : List ℕ) (count : ℕ) (counted : count ≡ length numbers 
         let next : more ≡ size numbers count index = sized .0 in
         let few : more ≤ 260 = sized .1 in
         record {
-          few = omega arith;
           near = omega arith;
-          onward = λ other h.
-              ap (λ (n : ℕ). after numbers count index (place + n) other) next
-              ∙ sym (starts-onward numbers count index here place other (omega arith))
-              ∙ r .onward other (omega arith);
           left =
               ap (λ (n : ℕ). after numbers count index (place + n) address) next
               ∙ sym (starts-after numbers count index here place address before)
@@ -143,36 +160,6 @@ module _ (numbers : List ℕ) (count : ℕ) (counted : count ≡ length numbers 
 
 pub ruleset reaching = (reach-starts, reach-over, reach-there, reach-goes-on)
 
--- SPANS
-
-and-last-true : (a b : Bool) → b ≡ true → a ≡ (a and b)
-unfolding _and_
-and-last-true true b h = sym h
-and-last-true false b h = refl
-
-and-last-false : (a b c : Bool) → c ≡ false → false ≡ (a and b and c)
-unfolding _and_
-and-last-false true true c h = sym h
-and-last-false true false c h = refl
-and-last-false false b c h = refl
-
-module _ (numbers : List ℕ) (from to : ℕ) where
-  pub span-backward : to < from → false ≡ isSpan (isPlace numbers) from to
-  unfolding isSpan
-  span-backward h = and-last-false _ _ _ (not-off _ (lt-ltb to from h))
-
-  module _ (cursor : Cursor) (t : Tells numbers cursor from) where
-    pub span-unstarted : (cursor .place ≡ from → ⊥) → false ≡ isSpan (isPlace numbers) from to
-    unfolding isSpan
-    span-unstarted h = sym (first-false _ _ (t .told ∙ ne-eqb (cursor .place) from h))
-
-    pub span-onward : (other : Cursor) → from ≤ to → cursor .place ≡ from → Tells numbers other to → (other .place ≡? to) ≡ isSpan (isPlace numbers) from to
-    unfolding isSpan
-    span-onward other h e u =
-        and-on _ _ _ (t .told ∙ eq-eqb (cursor .place) from e) (sym (u .told) ∙ and-last-true _ _ (not-on _ (le-ltb to from h)))
-
-pub ruleset spans = (span-backward, span-unstarted, span-onward)
-
--- what a cursor tells
-pub told-is : (numbers : List ℕ) (cursor : Cursor) (address : ℕ) → Tells numbers cursor address → (cursor .place ≡? address) ≡ isPlace numbers address
-told-is numbers cursor address t = sym (t .told)
+-- an address where a cursor stands
+pub address-met : (numbers : List ℕ) (cursor : Cursor) (address : ℕ) → Stands numbers cursor → address ≡ cursor .place → true ≡ isPlace numbers address
+address-met numbers cursor address s e = sym (starts-here _ (cursor .place) _ address (sym e)) ∙ s .onward address (omega arith)

@@ -1,5 +1,4 @@
 -- The definitions of this crate, each file over those above it.
 pub mod Rows
-pub mod Answers
 pub mod Places
 pub mod Rules

@@ -1,12 +1,15 @@
 -- Addresses in the body that given items make, told from the items' numbers: the first byte of an item, or the body's length.
 use Prim.Native.Nat.{ℕ, zero, suc, _+_, _-_, _*_, _/_, _<_, _≤_}
 use mathlib.Core.List.{List}
-use mathlib.Core.Bool.{Bool}
+use mathlib.Core.Bool.{Bool, true, false}
 use mathlib.Core.Path.{_≡_}
 use lib.ListN.{length, drop}
 use Rattle.model.specs.Words.{_or_, _≡?_}
 use Rattle.model.specs.Bytes.{_!_}
-use Rattle.writing.specs.Parts.{givenSize}
+use Rattle.model.specs.Item.{isFine}
+use Rattle.model.specs.Writing.{itemsGiven}
+use Rattle.model.specs.declared.Voice.the-variants.{Score}
+use Rattle.writing.specs.Parts.{givenSize, CheckedTo}
 use Rattle.entries.specs.declared.address.Cursor.{Cursor}
 
 -- whether one of so many items begins at an address, the first at a place, or the last ends there
@@ -25,7 +28,16 @@ pub record Stands (numbers : List ℕ) (cursor : Cursor) : Type 0 where
   pub onward : (address : ℕ) → cursor .place ≤ address
       → isStart (cursor .place) (length numbers / 2 - cursor .index) (drop (2 * cursor .index) numbers) address ≡ isPlace numbers address
 
--- a cursor that tells whether a number is an address
-pub record Tells (numbers : List ℕ) (cursor : Cursor) (address : ℕ) : Type 0 where
+-- The front: a cursor that checks the items it passes.
+pub record Front (source numbers : List ℕ) (cursor : Cursor) : Type 0 where
   pub stands : Stands numbers cursor
-  pub told : isPlace numbers address ≡ (cursor .place ≡? address)
+  pub checked : CheckedTo Score source numbers (cursor .index) (cursor .place)
+
+-- all items can be written
+abbrev pub AllGiven : List ℕ → List ℕ → Type 0
+AllGiven source numbers = isFine (itemsGiven Score source numbers) ≡ true
+
+-- The front came to an address or past it. Where it did not, an item is at fault, or the address is behind the last.
+pub record Came (source numbers : List ℕ) (cursor : Cursor) (address : ℕ) : Type 0 where
+  pub front : Front source numbers cursor
+  pub beyond : AllGiven source numbers → cursor .place < address → isPlace numbers address ≡ false

@@ -1,9 +1,9 @@
 -- Rows of four numbers, as seek entries are given, and the bytes that a row makes.
 use Prim.Native.Nat.{ℕ, zero, suc, _+_, _*_, _/_, _%_}
-use mathlib.Core.List.{List, [], _∷_, _++_}
+use mathlib.Core.List.{List, [], _∷_, _++_, map}
 use mathlib.Core.Bool.{Bool}
 use lib.ListN.{length, drop}
-use Rattle.model.specs.Words.{if_then_else_, _≡?_, Checked}
+use Rattle.model.specs.Words.{if_then_else_, _≡?_, Placed, Checked}
 use Rattle.model.specs.Bytes.{_!_}
 use Rattle.model.specs.Seek.{Entry}
 use Rattle.model.specs.Track.{pointWidth}
@@ -59,3 +59,7 @@ rowsBytes phrases letters (row ∷ rows) = rowBytes phrases letters row ++ rowsB
 unfoldable pub seekSize : Bool → List ℕ → List Row → ℕ
 seekSize phrases letters [] = 0
 seekSize phrases letters (row ∷ rows) = 7 + length (rowsBytes phrases letters (row ∷ rows))
+
+-- the entries that stand one behind the other
+abbrev pub entriesIn : List (Placed Entry) → List Entry
+entriesIn placed = map (λ entry. entry .what) placed

@@ -4,17 +4,27 @@ use mathlib.Core.List.{List, [], _∷_}
 use mathlib.Core.Bool.{Bool, true, false}
 use mathlib.Core.Path.{_≡_}
 use lib.ListN.{getD, set}
-use Rattle.model.specs.Words.{if_then_else_, _and_, _or_, _<?_, _≤?_, _≡?_, Placed, Checked, _>>_}
+use Rattle.model.specs.Words.{if_then_else_, _and_, _or_, _<?_, _≤?_, _≡?_, Placed, Checked, Checked.fine, _>>=_, _>>_}
 use Rattle.model.specs.Seek.{Entry}
 use Rattle.model.specs.Points.{isSpan, pointsHold, isPosition, orderHolds}
-use Rattle.entries.specs.declared.address.Cursor.{Cursor}
+use Rattle.model.specs.SeekBytes.{entriesGiven}
+use Rattle.writing.specs.Parts.{faultIn}
 use Rattle.entries.specs.declared.row.Row.{Row}
-use Rattle.entries.specs.Places.{isPlace, Stands}
+use Rattle.entries.specs.declared.points.Judged.{Judged}
+use Rattle.entries.specs.declared.rows.Told.{Told}
+use Rattle.entries.specs.Places.{isPlace, Front, AllGiven}
 
 -- 13, and then 14 where letters count
 unfoldable pub rulesHold : Bool → (ℕ → Bool) → List (Placed Entry) → Checked (Unit {0})
 rulesHold true address entries = pointsHold address (isPosition entries) entries >> orderHolds entries
 rulesHold false address entries = pointsHold address address entries
+
+-- the entries of a track beside its items: 12, 13, 14
+unfoldable pub seekStage : Bool → List ℕ → List ℕ → List ℕ → Checked (List (Placed Entry))
+seekStage phrases entries items letters = do
+  placed ← entriesGiven phrases letters entries
+  rulesHold phrases (isPlace items) placed
+  fine placed
 
 -- the start point's value, 0 without one
 unfoldable pub startedIn : List Row → ℕ
@@ -24,11 +34,6 @@ startedIn (row ∷ rows) = if row .kind ≡? 0 then row .from else startedIn row
 unfoldable pub hasList : List Row → Bool
 hasList [] = false
 hasList (row ∷ rows) = (row .kind ≡? 3) or hasList rows
-
--- a cursor that tells whether the first number of a row is an address; of an order list it tells nothing
-pub record TellsRow (items : List ℕ) (cursor : Cursor) (row : Row) : Type 0 where
-  pub stands : Stands items cursor
-  pub told : (row .kind ≡ 3 → ⊥) → isPlace items (row .from) ≡ (cursor .place ≡? row .from)
 
 -- with phrases a point is a position in a list of so many letters, in a stream an address
 unfoldable pub isPoint : Bool → List ℕ → ℕ → ℕ → Bool
@@ -63,3 +68,16 @@ allNamed rows (letter ∷ letters) = isNamed letter rows and allNamed rows lette
 
 unfoldable pub lettersFault : Bool → List Row → List ℕ → ℕ
 lettersFault ordered rows letters = if ordered then (if allNamed rows letters then 0 else 14) else 0
+
+-- 14 where letters count
+unfoldable pub orderFault : Bool → Bool → List Row → List ℕ → ℕ
+orderFault phrases ordered rows letters = if phrases then lettersFault ordered rows letters else 0
+
+-- A judgement holds where all items can be written, and the front has come further meanwhile.
+pub record Says (source items : List ℕ) (judged : Judged) (meant : Bool) : Type 0 where
+  pub front : Front source items (judged .front)
+  pub so : AllGiven source items → judged .holds ≡ meant
+
+pub record Tells (phrases : Bool) (letters entries source items : List ℕ) (told : Told) : Type 0 where
+  pub front : Front source items (told .front)
+  pub so : AllGiven source items → told .fault ≡ faultIn (seekStage phrases entries items letters)

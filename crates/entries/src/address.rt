@@ -1,9 +1,14 @@
-// Addresses in the body that given items make. A cursor goes on from where it stands, so that addresses in their order cost one walk of the items in all.
+// Addresses in the body that given items make. The front is where the check of the items stands: it goes on to each address that is asked for, so that addresses in
+// their order are told while the items are checked, and cost no walk of their own.
 ghost use mathlib.Core.Path.{_≡_};
-ghost use Prim.Native.Nat.{_≤_};
-ghost use Rattle.model.specs.Points.{isSpan};
-ghost use Rattle.entries.specs.Places.{Stands, Tells, isPlace};
+ghost use mathlib.Core.Bool.{false};
+ghost use Prim.Native.Nat.{_<_};
+ghost use Rattle.model.specs.Words.{_≡?_};
+ghost use Rattle.entries.specs.Places.{isPlace, Stands, Front, Came};
+use model::Voice;
+use writing::given_length;
 use writing::given_size;
+use writing::is_short;
 
 // So many items, and the place behind them.
 pub struct Cursor {
@@ -11,47 +16,64 @@ pub struct Cursor {
     pub place: usize,
 }
 
-// The cursor at an address, or at the first item behind it, from another that is not past it.
-fn reach(items: &[u32], from: Cursor, address: u32) -> Cursor
-    requires { ⌜ Stands (now items) from ⌝ }
-    requires { ⌜ from .place ≤ address ⌝ }
-    ensures { λ r. ⌜ Tells (now (items .entry)) r address ⌝ }
+// The front at an address or past it, or at the first item that is at fault, or behind the last.
+pub fn advance(source: &[u8], items: &[u32], front: Cursor, address: u32) -> Cursor
+    requires { ⌜ Front (now source) (now items) front ⌝ }
+    ensures { λ r. ⌜ Came (now (source .entry)) (now (items .entry)) r address ⌝ }
 {
     let count = items.len() / 2;
     let wanted = address as usize;
-    let mut index = from.index;
-    let mut place = from.place;
+    let mut index = front.index;
+    let mut place = front.place;
     while index < count {
         if wanted <= place {
             return Cursor { index, place };
         }
-        place += given_size(items[2 * index], items[2 * index + 1]);
+        let duration = items[2 * index];
+        let word = items[2 * index + 1];
+        if is_short(Voice::Score, duration, word) {
+            place += 3;
+        } else {
+            let length = given_length(Voice::Score, source, duration, word);
+            if length == 0 {
+                return Cursor { index, place };
+            }
+            place += length;
+        }
         index += 1;
     }
     Cursor { index, place }
 }
 
-// The same from any cursor: one that is past the address goes back to the first item.
-pub fn cursor_at(items: &[u32], from: Cursor, address: u32) -> Cursor
-    requires { ⌜ Stands (now items) from ⌝ }
-    ensures { λ r. ⌜ Tells (now (items .entry)) r address ⌝ }
+// The first place from an address on, looked for from the first item on, or the last of all places.
+fn reach(items: &[u32], address: u32) -> usize
+    ensures { λ r. ⌜ (r ≡? address) ≡ isPlace (now (items .entry)) address ⌝ }
 {
-    if (address as usize) < from.place {
-        return reach(items, Cursor { index: 0, place: 0 }, address);
+    let count = items.len() / 2;
+    let wanted = address as usize;
+    let mut place: usize = 0;
+    let mut index: usize = 0;
+    while index < count {
+        if wanted <= place {
+            return place;
+        }
+        place += given_size(items[2 * index], items[2 * index + 1]);
+        index += 1;
     }
-    reach(items, from, address)
+    place
 }
 
-// Whether two numbers are a span, with the cursor at the first.
-pub fn is_span(items: &[u32], cursor: Cursor, from: u32, to: u32) -> bool
-    requires { ⌜ Tells (now items) cursor from ⌝ }
-    ensures { λ r. ⌜ r ≡ isSpan (isPlace (now (items .entry))) from to ⌝ }
+// Whether a number is an address, from a front that came to it or past it. One that lies behind the front is looked for anew.
+pub fn is_address(items: &[u32], front: Cursor, address: u32) -> bool
+    requires { ⌜ Stands (now items) front ⌝ }
+    ensures { λ r. ⌜ ((front .place < address → isPlace (now (items .entry)) address ≡ false) → r ≡ isPlace (now (items .entry)) address) ⌝ }
 {
-    if to < from {
+    let wanted = address as usize;
+    if wanted == front.place {
+        return true;
+    }
+    if front.place < wanted {
         return false;
     }
-    if cursor.place != from as usize {
-        return false;
-    }
-    reach(items, cursor, to).place == to as usize
+    reach(items, address) == wanted
 }

@@ -7,10 +7,14 @@ mod form;
 mod letters;
 mod points;
 mod row;
+mod rows;
 mod size;
 
+pub use address::Cursor;
+pub use address::advance;
 pub use bytes::write_header;
 pub use bytes::write_number_2;
 pub use chunk::write_seek;
-pub use points::points_fault;
-pub use size::check_entries;
+pub use rows::Told;
+pub use rows::judge_entries;
+pub use size::seek_size;

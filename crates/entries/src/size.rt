@@ -2,15 +2,10 @@
 ghost use mathlib.Core.Path.{_≡_};
 ghost use Prim.Native.Nat.{_+_, _≤_};
 ghost use lib.ListN.{length};
-ghost use Rattle.model.specs.Words.{toldAt};
-ghost use Rattle.model.specs.SeekBytes.{entriesGiven};
 ghost use Rattle.writing.specs.Parts.{limited};
-ghost use Rattle.entries.specs.Answers.{seekAnswer};
 ghost use Rattle.entries.specs.Rows.{rowBytes, rowsIn, seekSize};
-use super::form::has_form;
 use super::row::Row;
 use super::row::row_at;
-use model::Wrote;
 use writing::within_limit;
 
 // How many bytes an entry takes, and a comma.
@@ -30,7 +25,7 @@ fn row_size(phrases: bool, letters: &[u8], row: Row) -> usize
 }
 
 // None where there are no entries, else a header of eight, which stands for the first comma too.
-fn seek_size(phrases: bool, letters: &[u8], entries: &[u32]) -> usize
+pub fn seek_size(phrases: bool, letters: &[u8], entries: &[u32]) -> usize
     ensures { λ r. ⌜ r ≡ limited (seekSize phrases (now (letters .entry)) (rowsIn (now (entries .entry)))) ⌝ }
 {
     let count = entries.len() / 4;
@@ -44,19 +39,4 @@ fn seek_size(phrases: bool, letters: &[u8], entries: &[u32]) -> usize
         i += 1;
     }
     size
-}
-
-// How many bytes the seek chunk takes, or 12.
-pub fn check_entries(phrases: bool, letters: &[u8], entries: &[u32]) -> Wrote
-    ensures { λ r. ⌜ r ≡ seekAnswer phrases (toldAt 0 (entriesGiven phrases (now (letters .entry)) (now (entries .entry)))) ⌝ }
-{
-    if !has_form(phrases, letters, entries) {
-        return Wrote::Refused {
-            number: 12,
-            place: 0,
-        };
-    }
-    Wrote::Bytes {
-        length: seek_size(phrases, letters, entries),
-    }
 }

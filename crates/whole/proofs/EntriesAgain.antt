@@ -14,7 +14,7 @@ use Rattle.model.specs.Track.{pointWidth}
 use Rattle.model.specs.Answer.{lettersOf}
 use Rattle.model.specs.SeekBytes.{seekBytes, entriesPlaced, largestPoint, entryGiven, entriesFrom, entriesGiven, entryNumbers, entriesNumbers}
 use Rattle.entries.proofs.ListsInTurn.{all-in-turn}
-use Rattle.entries.specs.Answers.{entriesIn}
+use Rattle.entries.specs.Rows.{entriesIn}
 use Rattle.whole.proofs.EntriesFit.{EntryFits, EntriesFit}
 use Rattle.whole.proofs.SeekStands.{reads-stands}
 use Rattle.whole.proofs.SeekReads.{seek-reads}

@@ -15,7 +15,7 @@ use Rattle.seek.proofs.Ahead.{entry-goes}
 use Rattle.seek.proofs.Letters.{letter-most}
 use Rattle.whole.proofs.Bounded.{AllBelow, both-below, none-below, one-below}
 use Rattle.whole.proofs.StandShort.{stand-short}
-use Rattle.entries.specs.Answers.{entriesIn}
+use Rattle.entries.specs.Rows.{entriesIn}
 use Rattle.whole.proofs.EntriesFit.{EntryFits, EntriesFit}
 use Rattle.whole.proofs.SeekStands.{reads-stands}
 use Rattle.whole.proofs.EntryReads.{entry-length}

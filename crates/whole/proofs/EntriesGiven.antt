@@ -17,7 +17,7 @@ use Rattle.model.proofs.Tests.{if-all}
 use Rattle.model.proofs.Outcomes.{bind-fine}
 use Rattle.entries.proofs.ListsInTurn.{in-turn-all}
 use Rattle.entries.proofs.GivenEntries.{placed-things}
-use Rattle.entries.specs.Answers.{entriesIn}
+use Rattle.entries.specs.Rows.{entriesIn}
 use Rattle.whole.proofs.EntriesFit.{EntryFits, EntriesFit}
 use Rattle.whole.proofs.SeekReads.{seek-reads}
 

@@ -12,7 +12,7 @@ use Rattle.model.specs.Seek.{Entry, entryStep, seekOf}
 use Rattle.model.specs.SeekBytes.{entryBytes, furtherBytes, seekBytes, entriesPlaced}
 use Rattle.model.proofs.Walks.{GoesOn, Stand}
 use Rattle.seek.proofs.Ahead.{entry-goes}
-use Rattle.entries.specs.Answers.{entriesIn}
+use Rattle.entries.specs.Rows.{entriesIn}
 use Rattle.whole.proofs.EntriesFit.{EntriesFit}
 use Rattle.whole.proofs.SeekStands.{SeekStands, reads-stands}
 use Rattle.whole.proofs.EntryWrites.{Behind, Behind.bodyEnds, Behind.commaStands, MetThere, entry-writes}

@@ -29,7 +29,7 @@ use Rattle.model.proofs.Outcomes.{then-fine, bind-fine, fine-some}
 use Rattle.inverse.proofs.ReadWrites.{body-writes}
 use Rattle.whole.proofs.Bounded.{AllBelow}
 use Rattle.whole.proofs.EntriesAgain.{none-given, entries-given-again}
-use Rattle.entries.specs.Answers.{entriesIn}
+use Rattle.entries.specs.Rows.{entriesIn}
 use Rattle.whole.proofs.ItemsAgain.{items-given-again}
 use Rattle.whole.proofs.ItemPlaces.{read-points}
 use Rattle.whole.proofs.TrackRow.{seekPart, SeekReads}

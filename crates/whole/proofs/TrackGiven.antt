@@ -25,7 +25,7 @@ use Rattle.model.proofs.Tests.{and-left, and-right}
 use Rattle.inverse.proofs.GivenFit.{given-fit}
 use Rattle.inverse.proofs.WrittenReads.{sequence-reads}
 use Rattle.whole.proofs.Bounded.{AllBelow}
-use Rattle.entries.specs.Answers.{entriesIn}
+use Rattle.entries.specs.Rows.{entriesIn}
 use Rattle.whole.proofs.EntriesGiven.{given-reads}
 use Rattle.whole.proofs.ItemPlaces.{written-points}
 use Rattle.whole.proofs.TrackRow.{seekPart, SeekReads}

@@ -19,7 +19,7 @@ use Rattle.model.specs.declared.Voice.the-variants.{Score}
 use Rattle.model.proofs.Parts.{part-short}
 use Rattle.inverse.proofs.ReadWrites.{body-writes}
 use Rattle.whole.proofs.Bounded.{AllBelow, part-below, behind-below, front-below}
-use Rattle.entries.specs.Answers.{entriesIn}
+use Rattle.entries.specs.Rows.{entriesIn}
 use Rattle.whole.proofs.SeekWrites.{seek-some, seek-writes}
 use Rattle.whole.proofs.ChunksRead.{chunk-length}
 use Rattle.whole.proofs.TrackRow.{seekPart}

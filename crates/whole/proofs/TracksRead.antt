@@ -19,7 +19,7 @@ use Rattle.model.specs.Arrangement.{ScoreTrack, hasPhrases, seekChunk, trackByt
 use Rattle.model.specs.Layout.{trackHeld, tracksHeld, partsLaid, tracksLaid}
 use Rattle.model.specs.declared.Event.{Event}
 use Rattle.model.proofs.Tests.{both-true}
-use Rattle.entries.specs.Answers.{entriesIn}
+use Rattle.entries.specs.Rows.{entriesIn}
 use Rattle.whole.proofs.Following.{follows-part, part-follows}
 use Rattle.whole.proofs.ChunkRow.{Bodied, bodied, rowBytes, chunkFrom, chunksFrom, RowFits, RowHeld}
 use Rattle.whole.proofs.TrackNumbers.{tracksRow}

@@ -2,8 +2,8 @@
 use borrow.Author.Needs.{needs}
 use Prim.Native.Nat.{_-_}
 use Rattle.entries.proofs.Finding.{Listing, listing}
-use Rattle.entries.proofs.points.has_list.Statement.{statement}
-use Rattle.entries.proofs.points.has_list.Tie as tie
+use Rattle.entries.proofs.rows.has_list.Statement.{statement}
+use Rattle.entries.proofs.rows.has_list.Tie as tie
 
 abbrev Inv-loop : tie.InvT-loop
 Inv-loop entries count i₀ i = Listing entries count i

@@ -2,8 +2,8 @@
 use borrow.Author.Needs.{needs}
 use Prim.Native.Nat.{_-_}
 use Rattle.entries.proofs.Finding.{Starting, starting}
-use Rattle.entries.proofs.points.start_value.Statement.{statement}
-use Rattle.entries.proofs.points.start_value.Tie as tie
+use Rattle.entries.proofs.rows.start_value.Statement.{statement}
+use Rattle.entries.proofs.rows.start_value.Tie as tie
 
 abbrev Inv-loop : tie.InvT-loop
 Inv-loop entries count i₀ i = Starting entries count i
