@@ -21,16 +21,20 @@ use Rattle.model.specs.Tables.{Given, fixedGiven, trackGiven}
 use Rattle.model.specs.declared.Voice.the-variants.{Score}
 use Rattle.model.specs.declared.Wrote.{Wrote}
 use Rattle.model.specs.declared.Wrote.the-variants.{Bytes, Refused}
+use Rattle.model.proofs.Outcomes.{bind-fine, then-fine}
 use Rattle.model.proofs.Parts.{part-length}
 use Rattle.model.proofs.Tests.{by-test, if-all, if-true, if-false, flag-on, flag-off}
 use Rattle.writing.specs.Parts.{limited, faultIn, listBytes, sizeAnswer}
 use Rattle.writing.proofs.GivenItems.{Numbered, then-numbered}
 use Rattle.writing.proofs.Limits.{limited-adds}
-use Rattle.entries.specs.Rows.{entriesIn}
+use Rattle.entries.specs.Rows.{rowsIn, seekSize, entriesIn}
 use Rattle.entries.specs.Places.{isPlace}
-use Rattle.entries.specs.Rules.{rulesHold}
+use Rattle.entries.specs.Rules.{rulesHold, seekStage, Tells}
+use Rattle.entries.specs.declared.rows.Told.{Told}
+use Rattle.entries.proofs.GivenEntries.{given-twelve}
+use Rattle.entries.proofs.ChunkOf.{given-chunk-size}
 use Rattle.entries.proofs.PlacesAre.{rules-are}
-use Rattle.arranging.specs.Stages.{givenOf, seekStage, sizeBehind, seekThen, trackAnswer}
+use Rattle.arranging.specs.Stages.{givenOf, trackAnswer}
 use Rattle.arranging.proofs.TrackStores.{chunk-long, head-byte}
 
 -- a refusal of the rules has a number
@@ -63,69 +67,43 @@ rules-numbered true address entries =
     (all-numbered _ (λ entry. entry-numbered entries (entry .place) (entry .what)) entries)
 
 -- THE ENTRIES beside the items
-module _ (index body : ℕ) (phrases : Bool) (entries items letters : List ℕ) (answer : Wrote)
-    (is : answer ≡ seekAnswer phrases (toldAt 0 (entriesGiven phrases letters entries))) where
-  module _ (number place : ℕ) (refuses : answer ≡ Refused number place) where
-    not-given : (o : Checked (List (Placed Entry))) → seekAnswer phrases (toldAt 0 o) ≡ Refused number place → (p : ℕ) × (o ≡ refused number p)
-    unfolding seekAnswer toldAt
-    not-given (fine placed) e = let z : _≡_ {A = ℕ} 0 1 = cc in absurd (omega arith)
-    not-given (refused n p) e = (p, let same : n ≡ number = cc in ap (λ (k : ℕ). refused k p) same)
+module _ (phrases : Bool) (entries items letters : List ℕ) where
+  stage-numbered : Numbered (seekStage phrases entries items letters)
+  unfolding seekStage _>>=_
+  stage-numbered = go (entriesGiven phrases letters entries) refl
+    where
+      go : (o : Checked (List (Placed Entry))) → entriesGiven phrases letters entries ≡ o → Numbered (seekStage phrases entries items letters)
+      go (fine placed) e = rw e (then-numbered _ _ (rules-numbered phrases (isPlace items) placed) tt)
+      go (refused number place) e = rw e (let twelve = given-twelve phrases letters entries number place e in omega arith)
 
-    pub seek-refused : Refused number index ≡ seekThen index phrases body entries items letters
-    unfolding seekThen seekStage sizeBehind _>>=_
-    seek-refused = rw (not-given (entriesGiven phrases letters entries) (sym is ∙ refuses) .1)
+  stage-given : (placed : List (Placed Entry)) → seekStage phrases entries items letters ≡ fine placed → entriesGiven phrases letters entries ≡ fine placed
+  unfolding seekStage
+  stage-given placed e =
+      let b = bind-fine _ _ placed e in
+      let t = then-fine _ _ placed (b .2) in
+      let same : b .0 ≡ placed = let q = t .1 in cc in
+      b .1 ∙ ap fine same
 
-  module _ (size : ℕ) (sized : answer ≡ Bytes size) where
-    given-so : (o : Checked (List (Placed Entry))) → seekAnswer phrases (toldAt 0 o) ≡ Bytes size
-        → (placed : List (Placed Entry)) × (o ≡ fine placed) × (size ≡ limited (length (seekChunk (pointWidth phrases) (entriesIn placed))))
-    unfolding seekAnswer toldAt
-    given-so (fine placed) e = (placed, refl, cc)
-    given-so (refused n p) e = let z : _≡_ {A = ℕ} 0 1 = cc in absurd (omega arith)
+  -- how many bytes the chunk takes of entries that keep the rules
+  stage-sized : (placed : List (Placed Entry)) → seekStage phrases entries items letters ≡ fine placed
+      → seekSize phrases letters (rowsIn entries) ≡ length (seekChunk (pointWidth phrases) (entriesIn placed))
+  unfolding isFine found
+  stage-sized placed e =
+      let given = stage-given placed e in
+      sym (given-chunk-size phrases letters entries (ap isFine given))
+      ∙ ap (λ (o : Checked (List (Placed Entry))). length (seekChunk (pointWidth phrases) (entriesIn (found o)))) given
 
-    these : (placed : List (Placed Entry)) × (entriesGiven phrases letters entries ≡ fine placed) × (size ≡ limited (length (seekChunk (pointWidth phrases) (entriesIn placed))))
-    these = given-so (entriesGiven phrases letters entries) (sym is ∙ sized)
-
-    pub seek-given : isFine (entriesGiven phrases letters entries) ≡ true
-    unfolding isFine
-    seek-given = ap isFine (these .1)
-
-    module _ (fault : ℕ) (ruled : fault ≡ faultIn (rulesHold phrases (isPlace items) (found (entriesGiven phrases letters entries)))) where
-      rules-so : fault ≡ faultIn (rulesHold phrases (isPlace items) (these .0))
-      unfolding found
-      rules-so = ruled ∙ ap (λ (o : Checked (List (Placed Entry))). faultIn (rulesHold phrases (isPlace items) (found o))) (these .1)
-
-      staged : (o : Checked (Unit {0})) → rulesHold phrases (isPlace items) (these .0) ≡ o → seekStage phrases entries items letters ≡ (o >> fine (these .0))
-      unfolding seekStage _>>=_
-      staged o e = rw (these .1, e)
-
-      pub seek-ruled-out : (fault ≡ 0 → ⊥) → Refused fault index ≡ seekThen index phrases body entries items letters
-      unfolding seekThen sizeBehind faultIn _>>_
-      seek-ruled-out h = go (rulesHold phrases (isPlace items) (these .0)) refl
-        where
-          go : (o : Checked (Unit {0})) → rulesHold phrases (isPlace items) (these .0) ≡ o → Refused fault index ≡ seekThen index phrases body entries items letters
-          go (fine u) e = absurd (h (rules-so ∙ ap faultIn e))
-          go (refused number place) e = rw (staged (refused number place) e) (ap (λ (n : ℕ). Refused n index) (rules-so ∙ ap faultIn e))
-
-      pub seek-sized : (first whole : ℕ) → fault ≡ 0 → first ≡ limited (size + body) → whole ≡ limited (first + 22)
-          → Bytes whole ≡ seekThen index phrases body entries items letters
-      unfolding seekThen sizeBehind faultIn _>>_
-      seek-sized first whole h a b = go (rulesHold phrases (isPlace items) (these .0)) refl (rules-numbered phrases (isPlace items) (these .0))
-        where
-          chunk : ℕ
-          chunk = length (seekChunk (pointWidth phrases) (entriesIn (these .0)))
-
-          sum : whole ≡ limited (chunk + body + 22)
-          sum =
-              b ∙ ap (λ (n : ℕ). limited (n + 22)) (a ∙ ap (λ (n : ℕ). limited (n + body)) (these .2) ∙ limited-adds chunk body)
-              ∙ limited-adds (chunk + body) 22
-
-          go : (o : Checked (Unit {0})) → rulesHold phrases (isPlace items) (these .0) ≡ o → Numbered o → Bytes whole ≡ seekThen index phrases body entries items letters
-          go (fine u) e k = rw (staged (fine u) e) (ap Bytes sum)
-          go (refused number place) e k = absurd (omega (arith, rules-so ∙ ap faultIn e))
-
-pub ruleset seek-checks = (seek-refused, seek-given, seek-ruled-out, seek-sized)
+pub track-sum : (chunk body seek first whole : ℕ) → seek ≡ limited chunk → first ≡ limited (seek + body) → whole ≡ limited (first + 22) → whole ≡ limited (chunk + body + 22)
+track-sum chunk body seek first whole a b c =
+    c ∙ ap (λ (n : ℕ). limited (n + 22)) (b ∙ ap (λ (n : ℕ). limited (n + body)) a ∙ limited-adds chunk body) ∙ limited-adds (chunk + body) 22
 
 -- ALL OF A TRACK
+
+-- how many bytes a track takes whose items take so many, from the stage of its entries
+module _ (index : ℕ) (phrases : Bool) (body : ℕ) where
+  sizeBehind : Checked (List (Placed Entry)) → Wrote
+  sizeBehind (fine placed) = Bytes (limited (length (seekChunk (pointWidth phrases) (entriesIn placed)) + body + 22))
+  sizeBehind (refused number place) = Refused number index
 
 fixed-off : (fixed : List ℕ) → isFine (fixedGiven fixed) ≡ false → fixedGiven fixed ≡ refused 8 0
 unfolding fixedGiven isFine
@@ -212,24 +190,53 @@ module _ (index : ℕ) (head entries items letters source : List ℕ) where
             let back : bytes + (chunk + 22) ≡ chunk + bytes + 22 = omega arith in
             ap limited there ∙ limited-adds bytes (chunk + 22) ∙ ap limited back
 
-        behind : (o : Checked (List (Placed Entry))) → entriesGiven phrases letters entries ≡ o
-            → sizeBehind index phrases size (seekStage phrases entries items letters) ≡ trackAnswer (toldAt index track)
+        -- the answer, from what the stage of the entries came to
+        behind : (stage : Checked (List (Placed Entry))) → seekStage phrases entries items letters ≡ stage
+            → sizeBehind index phrases size stage ≡ trackAnswer (toldAt index track)
         unfolding seekStage sizeBehind trackAnswer toldAt _>>=_ _>>_
-        behind (refused number place) e = rw (opened, e)
-        behind (fine placed) e = go (rulesHold phrases (isPlace items) placed) refl
+        behind stage e = go (entriesGiven phrases letters entries) refl
           where
-            go : (q : Checked (Unit {0})) → rulesHold phrases (isPlace items) placed ≡ q
-                → sizeBehind index phrases size (seekStage phrases entries items letters) ≡ trackAnswer (toldAt index track)
-            go (refused number place) f = rw (opened, e, ← rules-are Score source items list given phrases placed, f)
-            go (fine u) f =
-                rw (opened, e, ← rules-are Score source items list given phrases placed, f)
+            ruled : (placed : List (Placed Entry)) → entriesGiven phrases letters entries ≡ fine placed → (q : Checked (Unit {0})) → rulesHold phrases (isPlace items) placed ≡ q
+                → sizeBehind index phrases size stage ≡ trackAnswer (toldAt index track)
+            ruled placed f (refused number place) q = rw (← e, opened, f, ← rules-are Score source items list given phrases placed, q)
+            ruled placed f (fine u) q =
+                rw (← e, opened, f, ← rules-are Score source items list given phrases placed, q)
                 (ap Bytes (sums _ ∙ ap limited (sym (track-long placed))))
 
-      pub track-seek : (size : ℕ) (z : Wrote) → answer ≡ Bytes size → z ≡ seekThen index (head ! 2 ≡? 1) size entries items letters
-          → z ≡ trackAnswer (toldAt index (trackGiven (givenOf head entries items letters source)))
-      unfolding seekThen
-      track-seek size z e q =
-          let these = items-fine (itemsGiven Score source items) size (sym is ∙ e) in
-          q ∙ behind (these .0) (these .1) size (these .2) (entriesGiven phrases letters entries) refl
+            go : (o : Checked (List (Placed Entry))) → entriesGiven phrases letters entries ≡ o → sizeBehind index phrases size stage ≡ trackAnswer (toldAt index track)
+            go (refused number place) f = rw (← e, opened, f)
+            go (fine placed) f = ruled placed f (rulesHold phrases (isPlace items) placed) refl
 
-pub ruleset track-checks = (track-fixed, track-items-refused, track-seek)
+      module _ (size : ℕ) (sized : answer ≡ Bytes size) (told-entries : Told) (tells : Tells phrases letters entries source items told-entries) where
+        these : (list : List (Item Content)) × (itemsGiven Score source items ≡ fine list) × (size ≡ limited (length (bytesOf handyPhone list)))
+        these = items-fine (itemsGiven Score source items) size (sym is ∙ sized)
+
+        fault-is : told-entries .fault ≡ faultIn (seekStage phrases entries items letters)
+        unfolding isFine
+        fault-is = tells .so (ap isFine (these .1))
+
+        whole-is : (stage : Checked (List (Placed Entry))) → seekStage phrases entries items letters ≡ stage → sizeBehind index phrases size stage ≡ trackAnswer (toldAt index track)
+        whole-is = behind (these .0) (these .1) size (these .2)
+
+        pub track-entries-refused : (told-entries .fault ≡ 0 → ⊥)
+            → Refused (told-entries .fault) index ≡ trackAnswer (toldAt index (trackGiven (givenOf head entries items letters source)))
+        unfolding faultIn sizeBehind
+        track-entries-refused h = go (seekStage phrases entries items letters) refl
+          where
+            go : (stage : Checked (List (Placed Entry))) → seekStage phrases entries items letters ≡ stage
+                → Refused (told-entries .fault) index ≡ trackAnswer (toldAt index (trackGiven (givenOf head entries items letters source)))
+            go (fine placed) e = absurd (h (fault-is ∙ ap faultIn e))
+            go (refused number place) e = ap (λ (n : ℕ). Refused n index) (fault-is ∙ ap faultIn e) ∙ whole-is (refused number place) e
+
+        pub track-sized : (whole : ℕ) → told-entries .fault ≡ 0 → whole ≡ limited (seekSize (head ! 2 ≡? 1) letters (rowsIn entries) + size + 22)
+            → Bytes whole ≡ trackAnswer (toldAt index (trackGiven (givenOf head entries items letters source)))
+        unfolding faultIn sizeBehind
+        track-sized whole h sum = go (seekStage phrases entries items letters) refl (stage-numbered phrases entries items letters)
+          where
+            go : (stage : Checked (List (Placed Entry))) → seekStage phrases entries items letters ≡ stage → Numbered stage
+                → Bytes whole ≡ trackAnswer (toldAt index (trackGiven (givenOf head entries items letters source)))
+            go (refused number place) e k = absurd (omega (arith, fault-is ∙ ap faultIn e))
+            go (fine placed) e k =
+                ap Bytes (sum ∙ ap (λ (n : ℕ). limited (n + size + 22)) (stage-sized phrases entries items letters placed e)) ∙ whole-is (fine placed) e
+
+pub ruleset track-checks = (track-fixed, track-items-refused, track-entries-refused, track-sized)

@@ -23,8 +23,6 @@ use Rattle.model.specs.declared.Wrote.{Wrote}
 use Rattle.model.specs.declared.Wrote.the-variants as wrote
 use Rattle.writing.specs.Parts.{limited, listBytes}
 use Rattle.entries.specs.Rows.{entriesIn}
-use Rattle.entries.specs.Places.{isPlace}
-use Rattle.entries.specs.Rules.{rulesHold}
 
 -- 6 and 7, and how many tracks there are
 unfoldable pub howMany : List Given → Checked ℕ
@@ -44,20 +42,6 @@ trackAnswer (refused number place) = wrote.Refused number place
 unfoldable pub tracksAnswer : Checked (List ScoreTrack) → Wrote
 tracksAnswer (fine tracks) = wrote.Bytes (limited (length (tracksBytes tracks)))
 tracksAnswer (refused number place) = wrote.Refused number place
-
--- the seek entries of a track beside its items, and then how many bytes the track takes where its body takes so many
-unfoldable pub seekStage : Bool → List ℕ → List ℕ → List ℕ → Checked (List (Placed Entry))
-seekStage phrases entries items letters = do
-  placed ← entriesGiven phrases letters entries
-  rulesHold phrases (isPlace items) placed
-  fine placed
-
-unfoldable pub sizeBehind : ℕ → Bool → ℕ → Checked (List (Placed Entry)) → Wrote
-sizeBehind index phrases body (fine placed) = wrote.Bytes (limited (length (seekChunk (pointWidth phrases) (entriesIn placed)) + body + 22))
-sizeBehind index phrases body (refused number place) = wrote.Refused number index
-
-unfoldable pub seekThen : ℕ → Bool → ℕ → List ℕ → List ℕ → List ℕ → Wrote
-seekThen index phrases body entries items letters = sizeBehind index phrases body (seekStage phrases entries items letters)
 
 -- the bytes of tracks that are given, none where one is refused
 unfoldable pub trackGivenBytes : Checked ScoreTrack → List ℕ

@@ -12,14 +12,18 @@ ghost use Rattle.model.specs.Writing.{itemsGiven};
 ghost use Rattle.model.specs.SeekBytes.{entriesGiven};
 ghost use Rattle.model.specs.ChunkBytes.{numberBytes, chunkBytes};
 ghost use Rattle.model.specs.Tables.{fixedGiven, trackGiven};
-ghost use Rattle.writing.specs.Parts.{listBytes};
+ghost use Rattle.writing.specs.Parts.{limited, listBytes};
+ghost use Rattle.entries.specs.Rows.{rowsIn, seekSize};
 ghost use Rattle.arranging.specs.Apart.{givenAt, Apart};
-ghost use Rattle.arranging.specs.Stages.{givenOf, seekThen, trackAnswer, trackGivenBytes, seekOf, insideOf};
+ghost use Rattle.arranging.specs.Stages.{givenOf, trackAnswer, trackGivenBytes, seekOf, insideOf};
 use super::tables::Stretches;
+use entries::advance;
+use entries::judge_entries;
+use entries::seek_size;
 use entries::write_header;
 use model::Voice;
 use model::Wrote;
-use writing::check_items;
+use writing::check_from;
 use writing::copy_part;
 use writing::limited_sum;
 use writing::write_list;
@@ -35,38 +39,16 @@ fn has_fixed(head: &[u8]) -> bool
     tracks::fixed_fits(Voice::Score, head, 1)
 }
 
-// How many bytes a track takes whose body takes so many, or what is wrong with its entries beside its items.
-fn check_seek(
-    index: usize,
-    phrases: bool,
-    body: usize,
-    entries: &[u32],
-    items: &[u32],
-    letters: &[u8],
-) -> Wrote
-    ensures { λ r. ⌜ r ≡ seekThen index phrases body (now (entries .entry)) (now (items .entry)) (now (letters .entry)) ⌝ }
+// How many bytes a track takes whose items take so many.
+fn track_size(phrases: bool, letters: &[u8], entries: &[u32], body: usize) -> usize
+    ensures { λ r. ⌜ r ≡ limited (seekSize phrases (now (letters .entry)) (rowsIn (now (entries .entry))) + body + 22) ⌝ }
 {
-    match entries::check_entries(phrases, letters, entries) {
-        Wrote::Refused { number, place: _ } => Wrote::Refused {
-            number,
-            place: index,
-        },
-        Wrote::Bytes { length } => {
-            let fault = entries::points_fault(phrases, letters, entries, items);
-            if fault != 0 {
-                return Wrote::Refused {
-                    number: fault,
-                    place: index,
-                };
-            }
-            Wrote::Bytes {
-                length: limited_sum(limited_sum(length, body), 22),
-            }
-        }
-    }
+    let seek = seek_size(phrases, letters, entries);
+    limited_sum(limited_sum(seek, body), 22)
 }
 
-// How many bytes a track takes, or what is wrong with it.
+// How many bytes a track takes, or what is wrong with it. The entries are judged first, as far as the items allow: their addresses are told while the front goes over the
+// items. It then goes on to the last item, and what is wrong with the items comes before what is wrong with the entries.
 fn check_track(
     index: usize,
     head: &[u8],
@@ -84,12 +66,27 @@ fn check_track(
             place: index,
         };
     }
-    match check_items(Voice::Score, source, items) {
+    let phrases = head[2] == 1;
+    let told = judge_entries(phrases, letters, entries, source, items);
+    let fault = told.fault;
+    let reached = told.front;
+    let front = advance(source, items, reached, 0xFFFFFFFF);
+    match check_from(Voice::Score, source, items, front.index, front.place) {
         Wrote::Refused { number, place: _ } => Wrote::Refused {
             number,
             place: index,
         },
-        Wrote::Bytes { length } => check_seek(index, head[2] == 1, length, entries, items, letters),
+        Wrote::Bytes { length } => {
+            if fault != 0 {
+                return Wrote::Refused {
+                    number: fault,
+                    place: index,
+                };
+            }
+            Wrote::Bytes {
+                length: track_size(phrases, letters, entries, length),
+            }
+        }
     }
 }
 
