@@ -5,6 +5,7 @@
 // description is cut, ends the run with the line `bad case`.
 mod cases;
 mod descriptions;
+mod lending;
 mod listings;
 mod messages;
 mod places;
@@ -23,22 +24,21 @@ use descriptions::Laid;
 use descriptions::cut;
 use descriptions::lay_body;
 use descriptions::lay_file;
-use listings::answer_list;
-use messages::answer_play;
+use lending::lend_to_entries;
+use lending::lend_to_flatten;
+use lending::lend_to_items;
+use lending::lend_to_list;
+use lending::lend_to_play;
+use lending::lend_to_read;
+use lending::lend_to_write;
+use lending::lend_to_write_body;
 use model::Pitch;
 use places::CUT;
-use places::byte_in;
-use plain_forms::answer_flatten;
-use rows::answer_read;
-use seek_entries::answer_entries;
 use text::flush;
 use text::put;
 use text::put_byte;
 use text::put_pitch;
 use text::put_refusal;
-use track_items::answer_items;
-use written::answer_write;
-use written::answer_write_body;
 
 fn answer_pitch(page: &mut [u8], used: usize, byte: u32, shift: u32) -> usize {
     match pitch::pitch_of((byte % 256) as u8, (shift % 256) as u8) {
@@ -49,179 +49,6 @@ fn answer_pitch(page: &mut [u8], used: usize, byte: u32, shift: u32) -> usize {
         }
         Pitch::Refused { number, place } => put_refusal(page, used, number, place),
     }
-}
-
-// Of the buffer and of each table a case lends as much as it states.
-fn lend_to_read(
-    page: &mut [u8],
-    used: usize,
-    case: Case,
-    buffer: &[u8],
-    table: &mut [u32],
-) -> usize {
-    let size = case.size as usize;
-    let numbers = case.room as usize * 4;
-    if buffer.len() < size || table.len() < numbers {
-        return used;
-    }
-    answer_read(
-        page,
-        used,
-        &buffer[..size],
-        case.stated,
-        &mut table[..numbers],
-    )
-}
-
-fn lend_to_play(
-    page: &mut [u8],
-    used: usize,
-    case: Case,
-    buffer: &[u8],
-    words: &mut [u32],
-    steps: &mut [u64],
-) -> usize {
-    let size = case.size as usize;
-    let room = case.room as usize;
-    if buffer.len() < size || words.len() < room || steps.len() < room {
-        return used;
-    }
-    answer_play(
-        page,
-        used,
-        &buffer[..size],
-        case.stated,
-        case.row,
-        &mut steps[..room],
-        &mut words[..room],
-    )
-}
-
-fn lend_to_flatten(
-    page: &mut [u8],
-    used: usize,
-    case: Case,
-    buffer: &[u8],
-    bytes: &mut [u8],
-) -> usize {
-    let size = case.size as usize;
-    let room = case.room as usize;
-    if buffer.len() < size || bytes.len() < room {
-        return used;
-    }
-    answer_flatten(
-        page,
-        used,
-        &buffer[..size],
-        case.stated,
-        case.row,
-        &mut bytes[..room],
-    )
-}
-
-fn lend_to_list(page: &mut [u8], used: usize, case: Case, buffer: &[u8]) -> usize {
-    let size = case.size as usize;
-    if buffer.len() < size {
-        return used;
-    }
-    answer_list(page, used, &buffer[..size])
-}
-
-fn lend_to_items(
-    page: &mut [u8],
-    used: usize,
-    case: Case,
-    buffer: &[u8],
-    table: &mut [u32],
-) -> usize {
-    let size = case.size as usize;
-    let numbers = case.room as usize * 2;
-    if buffer.len() < size || table.len() < numbers {
-        return used;
-    }
-    answer_items(
-        page,
-        used,
-        &buffer[..size],
-        case.stated,
-        case.row,
-        &mut table[..numbers],
-    )
-}
-
-fn lend_to_entries(
-    page: &mut [u8],
-    used: usize,
-    case: Case,
-    buffer: &[u8],
-    table: &mut [u32],
-    letters: &mut [u8],
-) -> usize {
-    let size = case.size as usize;
-    let numbers = case.room as usize * 4;
-    if buffer.len() < size || table.len() < numbers || letters.len() < 65536 {
-        return used;
-    }
-    answer_entries(
-        page,
-        used,
-        &buffer[..size],
-        case.stated,
-        case.row,
-        &mut table[..numbers],
-        &mut letters[..65536],
-    )
-}
-
-// To the writer a case lends of the room as much as it states, and of the tables what is laid out.
-fn lend_to_write(
-    page: &mut [u8],
-    used: usize,
-    case: Case,
-    laid: Laid,
-    table: &[u32],
-    given: &[u8],
-    bytes: &mut [u8],
-) -> usize {
-    let room = case.room as usize;
-    let numbers = laid.numbers;
-    let filled = laid.bytes;
-    if table.len() < numbers || given.len() < filled || bytes.len() < room {
-        return used;
-    }
-    answer_write(
-        page,
-        used,
-        &table[..numbers],
-        &given[..filled],
-        &mut bytes[..room],
-    )
-}
-
-fn lend_to_write_body(
-    page: &mut [u8],
-    used: usize,
-    case: Case,
-    laid: Laid,
-    buffer: &[u8],
-    table: &[u32],
-    given: &[u8],
-    bytes: &mut [u8],
-) -> usize {
-    let room = case.room as usize;
-    let numbers = laid.numbers;
-    let filled = laid.bytes;
-    if table.len() < numbers || given.len() < filled || bytes.len() < room {
-        return used;
-    }
-    answer_write_body(
-        page,
-        used,
-        byte_in(buffer, 0),
-        &given[..filled],
-        &table[..numbers],
-        &mut bytes[..room],
-    )
 }
 
 // What a case's description is laid out to, `CUT` where it is cut; of an operation without one nothing is laid out.

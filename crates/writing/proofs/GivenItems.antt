@@ -23,7 +23,7 @@ use Rattle.model.proofs.Tests.{by-test, if-all, if-true, if-false, and-left, an
 use Rattle.model.proofs.Outcomes.{then-fine, fine-some, not-refused, was-passed, neither-first, neither-second}
 use Rattle.writing.specs.Parts.{eventSize, faultIn, givenSize, givenBytes}
 use Rattle.writing.proofs.Contents.{event-length}
-use Rattle.writing.proofs.Items.{timed-length}
+use Rattle.writing.proofs.Items.{timed-length, first-room}
 use Rattle.writing.proofs.WordCases.{in-note, in-wave, in-exclusive, in-nothing, in-control}
 
 -- FAULTS, as the code finds them
@@ -376,6 +376,9 @@ module _ (voice : Voice) (source : List ℕ) (duration word : ℕ) (there : isFi
         pub given-wrote : (m : List ℕ) → m ≡ sets l at (timedBytes source duration event) → m ≡ sets l at (givenBytes (itemGiven voice source duration word))
         given-wrote m h = rw event-bytes h
 
+    pub given-first : (l : List ℕ) (at : ℕ) → at + length (givenBytes (itemGiven voice source duration word)) ≤ length l → at + length (durationBytes duration) ≤ length l
+    given-first l at h = first-room source duration (eventIn word) l at (given-room (eventIn word) refl l at h)
+
   pub given-length : length (givenBytes (itemGiven voice source duration word)) ≡ givenSize duration word
   unfolding givenSize if_then_else_
   given-length =
@@ -388,4 +391,4 @@ module _ (voice : Voice) (source : List ℕ) (duration word : ℕ) (there : isFi
             ∙ simp ne-eqb
       ]
 
-pub ruleset given-parts = (mark-room, mark-next, mark-wrote, given-short, given-fits, given-room, given-next, given-wrote)
+pub ruleset given-parts = (mark-room, mark-next, mark-wrote, given-short, given-fits, given-first, given-room, given-next, given-wrote)

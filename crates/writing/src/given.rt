@@ -13,7 +13,8 @@ ghost use Rattle.writing.specs.Parts.{faultIn, givenSize, givenBytes};
 use super::fits::exclusive_fits;
 use super::fits::value_fits;
 use super::item::item_size;
-use super::item::write_item;
+use super::duration::write_duration;
+use super::event::write_event;
 use super::short::is_narrow;
 use super::short::write_short;
 use super::word::event_in;
@@ -157,5 +158,6 @@ pub fn write_given(
     if word / 0x8000000 == 16 {
         return write_end_mark(out, at);
     }
-    write_item(voice, source, duration, event_in(word), out, at)
+    let middle = write_duration(out, at, duration);
+    write_event(voice, source, event_in(word), out, middle)
 }

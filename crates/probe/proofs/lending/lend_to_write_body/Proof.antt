@@ -1,8 +1,8 @@
--- `probe::lend_to_write_body` meets its contract.
+-- `lend_to_write_body` meets its contract.
 use Rattle.model.proofs.Parts.{front-length}
 use borrow.Author.Needs.{needs}
-use Rattle.probe.proofs.lend_to_write_body.Statement.{statement}
-use Rattle.probe.proofs.lend_to_write_body.Tie as tie
+use Rattle.probe.proofs.lending.lend_to_write_body.Statement.{statement}
+use Rattle.probe.proofs.lending.lend_to_write_body.Tie as tie
 
 slice-aggregate-answer-write-body : tie.Need-slice-aggregate-answer-write-body
 slice-aggregate-answer-write-body c = search (needs, front-length)

@@ -1,8 +1,8 @@
--- `probe::lend_to_entries` meets its contract.
+-- `lend_to_entries` meets its contract.
 use Rattle.model.proofs.Parts.{front-length}
 use borrow.Author.Needs.{needs}
-use Rattle.probe.proofs.lend_to_entries.Statement.{statement}
-use Rattle.probe.proofs.lend_to_entries.Tie as tie
+use Rattle.probe.proofs.lending.lend_to_entries.Statement.{statement}
+use Rattle.probe.proofs.lending.lend_to_entries.Tie as tie
 
 slice-aggregate-answer-entries : tie.Need-slice-aggregate-answer-entries
 slice-aggregate-answer-entries c = search (needs, front-length)

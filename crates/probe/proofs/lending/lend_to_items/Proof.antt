@@ -1,8 +1,8 @@
--- `probe::lend_to_items` meets its contract.
+-- `lend_to_items` meets its contract.
 use Rattle.model.proofs.Parts.{front-length}
 use borrow.Author.Needs.{needs}
-use Rattle.probe.proofs.lend_to_items.Statement.{statement}
-use Rattle.probe.proofs.lend_to_items.Tie as tie
+use Rattle.probe.proofs.lending.lend_to_items.Statement.{statement}
+use Rattle.probe.proofs.lending.lend_to_items.Tie as tie
 
 slice-aggregate-answer-items : tie.Need-slice-aggregate-answer-items
 slice-aggregate-answer-items c = search (needs, front-length)

@@ -1,8 +1,8 @@
--- `probe::lend_to_flatten` meets its contract.
+-- `lend_to_flatten` meets its contract.
 use Rattle.model.proofs.Parts.{front-length}
 use borrow.Author.Needs.{needs}
-use Rattle.probe.proofs.lend_to_flatten.Statement.{statement}
-use Rattle.probe.proofs.lend_to_flatten.Tie as tie
+use Rattle.probe.proofs.lending.lend_to_flatten.Statement.{statement}
+use Rattle.probe.proofs.lending.lend_to_flatten.Tie as tie
 
 slice-aggregate-answer-flatten : tie.Need-slice-aggregate-answer-flatten
 slice-aggregate-answer-flatten c = search (needs, front-length)

@@ -1,8 +1,8 @@
--- `probe::lend_to_play` meets its contract.
+-- `lend_to_play` meets its contract.
 use Rattle.model.proofs.Parts.{front-length}
 use borrow.Author.Needs.{needs}
-use Rattle.probe.proofs.lend_to_play.Statement.{statement}
-use Rattle.probe.proofs.lend_to_play.Tie as tie
+use Rattle.probe.proofs.lending.lend_to_play.Statement.{statement}
+use Rattle.probe.proofs.lending.lend_to_play.Tie as tie
 
 slice-aggregate-answer-play : tie.Need-slice-aggregate-answer-play
 slice-aggregate-answer-play c = search (needs, front-length)

@@ -1,8 +1,8 @@
--- `probe::lend_to_read` meets its contract.
+-- `lend_to_read` meets its contract.
 use Rattle.model.proofs.Parts.{front-length}
 use borrow.Author.Needs.{needs}
-use Rattle.probe.proofs.lend_to_read.Statement.{statement}
-use Rattle.probe.proofs.lend_to_read.Tie as tie
+use Rattle.probe.proofs.lending.lend_to_read.Statement.{statement}
+use Rattle.probe.proofs.lending.lend_to_read.Tie as tie
 
 slice-aggregate-answer-read : tie.Need-slice-aggregate-answer-read
 slice-aggregate-answer-read c = search (needs, front-length)

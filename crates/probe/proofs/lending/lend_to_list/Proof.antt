@@ -1,8 +1,8 @@
 -- `lend_to_list` lends as much of the buffer as the case states.
 use Rattle.model.proofs.Parts.{front-length}
 use borrow.Author.Needs.{needs}
-use Rattle.probe.proofs.lend_to_list.Statement.{statement}
-use Rattle.probe.proofs.lend_to_list.Tie as tie
+use Rattle.probe.proofs.lending.lend_to_list.Statement.{statement}
+use Rattle.probe.proofs.lending.lend_to_list.Tie as tie
 
 slice-aggregate-answer-list : tie.Need-slice-aggregate-answer-list
 slice-aggregate-answer-list c = search (needs, front-length)

@@ -1,8 +1,8 @@
--- `probe::lend_to_write` meets its contract.
+-- `lend_to_write` meets its contract.
 use Rattle.model.proofs.Parts.{front-length}
 use borrow.Author.Needs.{needs}
-use Rattle.probe.proofs.lend_to_write.Statement.{statement}
-use Rattle.probe.proofs.lend_to_write.Tie as tie
+use Rattle.probe.proofs.lending.lend_to_write.Statement.{statement}
+use Rattle.probe.proofs.lending.lend_to_write.Tie as tie
 
 slice-aggregate-answer-write : tie.Need-slice-aggregate-answer-write
 slice-aggregate-answer-write c = search (needs, front-length)
