@@ -21,7 +21,8 @@ use Rattle.model.proofs.Tests.{if-false}
 use Rattle.writing.specs.Parts.{limited, faultIn, givenSize, givenBytes, sizeAnswer, onto, CheckedTo}
 use Rattle.writing.proofs.Durations.{some-bytes}
 use Rattle.writing.proofs.Limits.{limited-small, limited-most, limited-adds}
-use Rattle.writing.proofs.GivenItems.{given-length}
+use Rattle.writing.proofs.GivenItems.{item-numbered, given-length}
+use Rattle.writing.proofs.Lengths.{fault-none, fault-free}
 use Rattle.writing.proofs.Listed.{ahead, from, listed-next, listed-over}
 
 -- BYTES BEFORE WHAT IS LEFT
@@ -57,6 +58,11 @@ item-some : (item : Item Content) → 0 < length (itemBytes handyPhone item)
 unfolding itemBytes
 item-some (timed duration content) = omega (arith, length-append (durationBytes duration) (contentBytes content), some-bytes duration)
 item-some endMark = omega arith
+
+given-some : (one : Checked (Item Content)) → isFine one ≡ true → length (givenBytes one) ≡ 0 → ⊥
+unfolding givenBytes isFine
+given-some (fine item) there none = let some = item-some item in omega arith
+given-some (refused number place) there none = false≢true there
 
 -- a length over 0 is what the numbers say
 pub length-sized : (voice : Voice) (source : List ℕ) (duration word n : ℕ) → n ≡ length (givenBytes (itemGiven voice source duration word)) → (n ≡ 0 → ⊥)
@@ -173,17 +179,21 @@ module _ (voice : Voice) (source numbers : List ℕ) (count : ℕ) (counted : co
     check-done h =
         ap Bytes (sym (limited-small size (r .small))) ∙ checked-all voice source numbers i size (r .to) (λ e. some (counted ∙ e)) (omega arith)
 
-    module _ (here : i < count) (n : ℕ) (is : n ≡ length (givenBytes (itemGiven voice source (numbers ! (2 * i)) (numbers ! (2 * i + 1))))) where
-      pub check-faulty : n ≡ 0 → (fault : ℕ) → fault ≡ faultIn (itemGiven voice source (numbers ! (2 * i)) (numbers ! (2 * i + 1)))
-          → Refused fault i ≡ sizeAnswer (itemsGiven voice source numbers)
-      check-faulty = checked-faulty voice source numbers i size (r .to) (omega arith) n is
+    module _ (here : i < count) (fault : ℕ) (is : fault ≡ faultIn (itemGiven voice source (numbers ! (2 * i)) (numbers ! (2 * i + 1)))) where
+      pub check-faulty : (fault ≡ 0 → ⊥) → Refused fault i ≡ sizeAnswer (itemsGiven voice source numbers)
+      check-faulty some-fault =
+          checked-faulty voice source numbers i size (r .to) (omega arith) _ refl (sym (fault-none _ fault is some-fault)) fault is
 
-      pub check-goes-on : (next : ℕ) → (n ≡ 0 → ⊥) → next ≡ limited (size + n) → Checking voice source numbers next (i + 1)
-      check-goes-on next more e =
+      pub check-goes-on : (more next : ℕ) → fault ≡ 0 → more ≡ givenSize (numbers ! (2 * i)) (numbers ! (2 * i + 1)) → next ≡ limited (size + more)
+          → Checking voice source numbers next (i + 1)
+      check-goes-on more next none sized e =
+          let there = fault-free _ (item-numbered voice source _ _) (sym none ∙ is) in
+          let long : more ≡ length (givenBytes (itemGiven voice source (numbers ! (2 * i)) (numbers ! (2 * i + 1)))) = sized ∙ sym (given-length voice source _ _ there) in
+          let bytes : more ≡ 0 → ⊥ = λ z. given-some _ there (sym long ∙ z) in
           rw e
           (record {
-            small = limited-most (size + n);
-            to = checked-limited voice source numbers (i + 1) (size + n) (checked-next voice source numbers i size (r .to) (omega arith) n is more);
+            small = limited-most (size + more);
+            to = checked-limited voice source numbers (i + 1) (size + more) (checked-next voice source numbers i size (r .to) (omega arith) more long bytes);
           })
 
 pub ruleset checks = (check-starts, check-none, check-done, check-faulty, check-goes-on)

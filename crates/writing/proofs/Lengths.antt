@@ -126,12 +126,12 @@ pub ruleset event-lengths = (length-note, length-wave, length-control, length-ex
 
 -- THE WHOLE ITEM: one that is at fault has no bytes
 
-fault-none : (o : Checked (Item Content)) (n : ℕ) → n ≡ faultIn o → (n ≡ 0 → ⊥) → 0 ≡ length (givenBytes o)
+pub fault-none : (o : Checked (Item Content)) (n : ℕ) → n ≡ faultIn o → (n ≡ 0 → ⊥) → 0 ≡ length (givenBytes o)
 unfolding faultIn givenBytes
 fault-none (fine item) n e h = absurd (h e)
 fault-none (refused number place) n e h = refl
 
-fault-free : {A : Type 0} (o : Checked A) → Numbered o → 0 ≡ faultIn o → isFine o ≡ true
+pub fault-free : {A : Type 0} (o : Checked A) → Numbered o → 0 ≡ faultIn o → isFine o ≡ true
 unfolding faultIn isFine
 fault-free (fine a) k e = refl
 fault-free (refused number place) k e = absurd (omega arith)

@@ -8,10 +8,10 @@ ghost use Rattle.model.specs.Item.{isFine};
 ghost use Rattle.model.specs.Writing.{itemsGiven};
 ghost use Rattle.model.specs.Answer.{writeItemsOf, writeAnswer, writeRoom};
 ghost use Rattle.writing.specs.Parts.{CheckedTo, sizeAnswer, listBytes};
+use super::given::given_size;
 use super::given::item_fault;
 use super::given::write_given;
 use super::limit::within_limit;
-use super::measure::given_length;
 use model::Voice;
 use model::Wrote;
 
@@ -33,14 +33,14 @@ pub fn check_from(voice: Voice, source: &[u8], items: &[u32], checked: usize, ta
     while i < count {
         let duration = items[2 * i];
         let word = items[2 * i + 1];
-        let length = given_length(voice, source, duration, word);
-        if length == 0 {
+        let fault = item_fault(voice, source, duration, word);
+        if fault != 0 {
             return Wrote::Refused {
-                number: item_fault(voice, source, duration, word),
+                number: fault,
                 place: i,
             };
         }
-        size = within_limit(size + length);
+        size = within_limit(size + given_size(duration, word));
         i += 1;
     }
     Wrote::Bytes { length: size }

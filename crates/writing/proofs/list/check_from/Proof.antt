@@ -1,15 +1,15 @@
+use borrow.Author.Needs.{needs}
+use Rattle.writing.proofs.Checking.{Checking, checks, check-goes-on}
+use Prim.Native.Nat.{_-_}
 use native.Mathlib.Omega.{arith}
 use mathlib.Core.Path.{refl}
-use borrow.Author.Needs.{needs}
-use Rattle.writing.proofs.Checking.{Checking, checks, check-faulty, check-goes-on}
-use Prim.Native.Nat.{_-_}
 use Rattle.writing.proofs.list.check_from.Statement.{statement}
 use Rattle.writing.proofs.list.check_from.Tie as tie
 use Rattle.writing.proofs.list.check_from.Reads as reads
 use Rattle.writing.proofs.list.check_from.Lts as lts
+use Rattle.writing.proofs.given.given_size.Reads as given-size-reads
 use Rattle.writing.proofs.given.item_fault.Reads as item-fault-reads
 use Rattle.writing.proofs.limit.within_limit.Reads as within-limit-reads
-use Rattle.writing.proofs.measure.given_length.Reads as given-length-reads
 
 abbrev Inv-loop : tie.InvT-loop
 Inv-loop voice source items checked taken count size₀ i₀ size i = Checking voice source items size i
@@ -58,18 +58,16 @@ shared-slice-read-word : tie.Need-shared-slice-read-word Inv-loop μ-loop
 shared-slice-read-word c = search (needs, checks)
 
 -- src/list.rt:36:13
-given-length-requires : tie.Need-given-length-requires Inv-loop μ-loop
-given-length-requires c κs = search (needs, checks)
-
--- src/list.rt:39:25
 item-fault-requires : tie.Need-item-fault-requires Inv-loop μ-loop
 item-fault-requires c κs = search (needs, checks)
 
 -- src/list.rt:38:13
 returns-2 : tie.Need-returns-2 Inv-loop μ-loop
-returns-2 c =
-    let l = c .before .before .before .before .before .before in
-    check-faulty _ _ _ _ refl (λ e. omega arith) _ _ (l .loop .inv) (omega arith) _ (c .before .before .given-length .ensures .0) (search needs) _ (c .item-fault .ensures)
+returns-2 c = search (needs, checks)
+
+-- src/list.rt:43:36
+given-size-requires : tie.Need-given-size-requires Inv-loop μ-loop
+given-size-requires c κs = search (needs, checks)
 
 -- src/list.rt:43:29
 add-within-limit : tie.Need-add-within-limit Inv-loop μ-loop
@@ -90,8 +88,8 @@ loop-less c = search (needs, checks)
 -- src/list.rt:33:5
 loop-again : tie.Need-loop-again Inv-loop μ-loop
 loop-again c =
-    let l = c .before .before .before .before .before .before in
-    check-goes-on _ _ _ _ refl (λ e. omega arith) _ _ (l .loop .inv) (omega arith) _ (c .before .before .given-length .ensures .0) _ (λ e. omega arith) (c .within-limit2 .ensures)
+    let l = c .before .before .before .before .before .before .before in
+    check-goes-on _ _ _ _ refl (λ e. omega arith) _ _ (l .loop .inv) (omega arith) _ (c .before .before .before .item-fault .ensures) _ _ (c .before .before .if2 .left) (c .before .given-size .ensures .0) (c .within-limit2 .ensures)
 
 -- src/list.rt:20:1
 returns-3 : tie.Need-returns-3 Inv-loop μ-loop
@@ -113,9 +111,9 @@ check-from-spec =
     add-word
     mul-word-2
     shared-slice-read-word
-    given-length-requires
     item-fault-requires
     returns-2
+    given-size-requires
     add-within-limit
     within-limit-requires-2
     add-i
