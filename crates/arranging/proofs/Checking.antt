@@ -1,6 +1,6 @@
 -- All tracks checked, and counted: the invariant of `check_tracks`'s loop, and what each way out of it and each turn makes of it.
-use Prim.Native.Nat.{ℕ, suc, _+_, _-_, _<_, _≤_, min}
-use mathlib.Core.List.{List, [], _∷_, _++_}
+use Prim.Native.Nat.{ℕ, suc, _+_, _<_, _≤_, min}
+use mathlib.Core.List.{List, _∷_, _++_}
 use mathlib.Core.Path.{_≡_, refl, sym, _∙_, ap}
 use lib.ListN.{length, length-append}
 use native.Mathlib.Nat.{add-zero, zero-add}

@@ -1,15 +1,15 @@
 -- A stretch of a list that is asked to be longer than the list: what is left.
-use Prim.Native.Nat.{ℕ, _+_, _-_, _*_, _<_, _≤_, min}
-use mathlib.Core.List.{List, []}
+use Prim.Native.Nat.{ℕ, _+_, _-_, _*_, _≤_, min}
+use mathlib.Core.List.{List}
 use mathlib.Core.Path.{_≡_, refl, sym, _∙_, ap}
 use lib.ListN.{length, take, drop, length-drop, drop-of-length-le}
 use lib.Seq.{take-all, drop-drop, getD-drop}
 use native.Mathlib.Decide.{decLt}
 use native.Mathlib.Omega.{arith}
 use Rattle.model.specs.Bytes.{_!_, part}
-use Rattle.model.specs.Tables.{Given, numbersTaken, bytesTaken, firstGiven}
+use Rattle.model.specs.Tables.{numbersTaken, bytesTaken, firstGiven}
 use Rattle.arranging.specs.declared.tables.Stretches.{Stretches}
-use Rattle.arranging.specs.Apart.{givenAt, Apart}
+use Rattle.arranging.specs.Apart.{Apart}
 
 module _ (l : List ℕ) (at count to : ℕ) (inside : at ≤ length l) (clipped : to ≡ min (at + count) (length l)) where
   pub clip-from : at ≤ to

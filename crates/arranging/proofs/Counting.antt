@@ -3,17 +3,17 @@ use Prim.Native.Nat.{ℕ, _+_, _-_, _*_, _<_, _≤_, min}
 use mathlib.Core.Bool.{Bool, true, false}
 use mathlib.Core.List.{List, [], _∷_}
 use mathlib.Core.Path.{_≡_, refl, sym, _∙_, ap}
-use lib.ListN.{length, getD, set, length-set, replicate, length-replicate, drop}
+use lib.ListN.{length, getD, set, length-set, replicate, length-replicate}
 use lib.Seq.{getD-set-same, getD-set-other, getD-drop}
 use native.Mathlib.Nat.{add-zero}
 use native.Mathlib.Omega.{arith}
-use borrow.Author.Tests.{eq-eqb, ne-eqb, eqb-true, eqb-false}
-use Rattle.model.specs.Words.{if_then_else_, _or_, _≡?_, any, Checked, Checked.fine, Checked.refused, passed, _>>_}
+use borrow.Author.Tests.{eqb-true, eqb-false}
+use Rattle.model.specs.Words.{if_then_else_, _or_, _≡?_, any, Checked, Checked.fine, Checked.refused, _>>_}
 use Rattle.model.specs.Bytes.{_!_}
 use Rattle.model.specs.Tables.{Given, firstGiven, onceFrom, givenIn}
 use Rattle.model.specs.declared.Counted.{Counted}
 use Rattle.model.specs.declared.Counted.the-variants as counted
-use Rattle.model.proofs.Tests.{if-true, if-false, by-test, is-on, is-off}
+use Rattle.model.proofs.Tests.{if-false, by-test, is-on, is-off}
 use Rattle.seek.proofs.Ordering.{none-flagged}
 use Rattle.arranging.specs.declared.tables.Stretches.{Stretches}
 use Rattle.arranging.specs.Apart.{givenAt, Apart}

@@ -1,17 +1,16 @@
 -- Tracks that can be written, stored one after the other: the invariant of `write_tracks`'s loop, that what is still to be stored makes the whole, and what each turn
 -- and the end make of it.
-use Prim.Native.Nat.{ℕ, suc, _+_, _-_, _<_, _≤_, min}
+use Prim.Native.Nat.{ℕ, suc, _+_, _<_, _≤_, min}
 use mathlib.Core.Bool.{true}
 use mathlib.Core.List.{List, [], _∷_, _++_}
 use mathlib.Core.Path.{_≡_, refl, sym, _∙_, ap}
 use lib.ListN.{length, length-append}
 use lib.Seq.{sets}
-use native.Mathlib.Decide.{decLt}
 use native.Mathlib.Nat.{add-zero}
 use native.Mathlib.Omega.{arith}
-use Rattle.model.specs.Words.{Checked, Checked.fine, Checked.refused, _>>=_, toldAt}
+use Rattle.model.specs.Words.{Checked, Checked.fine}
 use Rattle.model.specs.Item.{isFine}
-use Rattle.model.specs.Arrangement.{ScoreTrack, trackBytes, tracksBytes}
+use Rattle.model.specs.Arrangement.{ScoreTrack, tracksBytes}
 use Rattle.model.specs.Tables.{Given, givenIn, trackGiven, tracksFrom}
 use Rattle.model.proofs.Outcomes.{bind-fine, fine-some}
 use Rattle.model.proofs.Stores.{sets-append}

@@ -2,14 +2,13 @@
 use Prim.Native.Nat.{ℕ, _+_, _-_, _≤_}
 use mathlib.Core.Bool.{true}
 use mathlib.Core.List.{List, [], _∷_}
-use mathlib.Core.Path.{_≡_, refl, sym, _∙_, ap, subst}
-use lib.ListN.{length, take, drop, length-take, length-drop}
-use lib.Seq.{sets, getD-take, take-take, drop-drop}
+use mathlib.Core.Path.{_≡_, refl, _∙_, ap}
+use lib.ListN.{length, take, drop}
+use lib.Seq.{sets, getD-take, take-take}
 use native.Mathlib.Omega.{arith}
-use Rattle.model.specs.Words.{Checked, toldAt}
+use Rattle.model.specs.Words.{toldAt}
 use Rattle.model.specs.Bytes.{_!_, part}
 use Rattle.model.specs.Item.{isFine}
-use Rattle.model.specs.Arrangement.{ScoreTrack}
 use Rattle.model.specs.Tables.{Given, firstGiven, trackGiven}
 use Rattle.model.specs.declared.Wrote.{Wrote}
 use Rattle.model.proofs.Parts.{part-length}

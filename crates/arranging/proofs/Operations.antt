@@ -1,27 +1,27 @@
 -- The answer to a write and the room after it, from what was found of the tables stage by stage.
 use Prim.Native.Nat.{ℕ, suc, _+_, _<_, _≤_, min}
 use mathlib.Core.Bool.{true}
-use mathlib.Core.List.{List, [], _∷_, _++_}
+use mathlib.Core.List.{List, [], _∷_}
 use mathlib.Core.Path.{_≡_, refl, sym, _∙_, ap}
 use lib.ListN.{length, take}
 use native.Mathlib.Omega.{arith}
 use borrow.Author.Tests.{eqb-false}
-use Rattle.model.specs.Words.{if_then_else_, _<?_, _≡?_, Checked, Checked.fine, Checked.refused, passed, _>>=_, _>>_, toldAt}
+use Rattle.model.specs.Words.{if_then_else_, _<?_, _≡?_, Checked, Checked.fine, Checked.refused, passed, _>>=_, _>>_}
 use Rattle.model.specs.ChunkBytes.{fileWith}
 use Rattle.model.specs.Item.{isFine}
-use Rattle.model.specs.Arrangement.{ScoreTrack, Arrangement, tracksBytes, fileBytes}
-use Rattle.model.specs.Tables.{Given, givenIn, onceFrom, trackGiven, tracksFrom, arrangementOf}
+use Rattle.model.specs.Arrangement.{ScoreTrack, fileBytes}
+use Rattle.model.specs.Tables.{Given, givenIn, onceFrom, tracksFrom, arrangementOf}
 use Rattle.model.specs.Answer.{memoryAfter, withinRoom, writeOf, writeAnswer, writeRoom}
 use Rattle.model.specs.declared.Counted.{Counted}
 use Rattle.model.specs.declared.Counted.the-variants as counted
 use Rattle.model.specs.declared.Wrote.{Wrote}
 use Rattle.model.specs.declared.Wrote.the-variants.{Bytes, Refused}
 use Rattle.model.proofs.Outcomes.{bind-fine, then-fine, not-refused-fine, past-fine}
-use Rattle.model.proofs.Tests.{by-test, if-true, if-false}
+use Rattle.model.proofs.Tests.{by-test}
 use Rattle.writing.specs.Parts.{limited}
 use Rattle.arranging.specs.Stages.{howMany, countAnswer, tracksAnswer, tracksGivenBytes, bareBytes, wholeBytes, sizedOf}
 use Rattle.arranging.proofs.Clipping.{clip-next, clip-to}
-use Rattle.arranging.proofs.Tracks.{Left, left-starts, left-bytes}
+use Rattle.arranging.proofs.Tracks.{left-starts, left-bytes}
 
 -- refused before anything is written
 module _ (numbers bytes l : List ℕ) (number place : ℕ) (refuses : writeOf numbers bytes (length l) ≡ refused number place) where

@@ -1,30 +1,30 @@
 -- One track checked: its entries beside its items, and then all of it, from the answers that were found part by part.
-use Prim.Native.Nat.{ℕ, _+_, _*_, _<_, _≤_}
+use Prim.Native.Nat.{ℕ, _+_, _*_}
 use mathlib.Core.Bool.{Bool, true, false, not, false≢true}
-use mathlib.Core.List.{List, [], _∷_, _++_, map}
+use mathlib.Core.List.{List, [], _∷_, _++_}
 use mathlib.Core.Path.{_≡_, refl, sym, _∙_, ap}
 use lib.ListN.{length, length-append}
 use native.Mathlib.Omega.{arith}
-use Rattle.model.specs.Words.{if_then_else_, _and_, _≡?_, isSome, Placed, Checked, Checked.fine, Checked.refused, passed, _>>=_, _>>_, toldAt, allPass}
+use Rattle.model.specs.Words.{_and_, _≡?_, Placed, Checked, Checked.fine, Checked.refused, passed, _>>=_, _>>_, toldAt, allPass}
 use Rattle.model.specs.Bytes.{_!_, part, MTR, Mtsq}
 use Rattle.model.specs.ChunkBytes.{chunkBytes}
 use Rattle.model.specs.Item.{Item, isFine, found}
-use Rattle.model.specs.Seek.{Entry, Entry.start, Entry.stop, Entry.phrase, Entry.order, phraseOf}
-use Rattle.model.specs.Points.{pointHolds, pointsHold, isPosition, lettersNamed, lettersHold, orderHolds}
+use Rattle.model.specs.Seek.{Entry, Entry.start, Entry.stop, Entry.phrase, Entry.order}
+use Rattle.model.specs.Points.{pointsHold, isPosition, lettersNamed, lettersHold, orderHolds}
 use Rattle.model.specs.Track.{pointWidth, fixedFits, pointsOf}
 use Rattle.model.specs.Plain.{bytesOf}
 use Rattle.model.specs.Content.{Content, handyPhone}
 use Rattle.model.specs.Writing.{itemsGiven, itemsPlaced}
 use Rattle.model.specs.SeekBytes.{entriesGiven}
 use Rattle.model.specs.Arrangement.{ScoreTrack, hasPhrases, seekChunk, trackBytes}
-use Rattle.model.specs.Tables.{Given, fixedGiven, trackGiven}
+use Rattle.model.specs.Tables.{fixedGiven, trackGiven}
 use Rattle.model.specs.declared.Voice.the-variants.{Score}
 use Rattle.model.specs.declared.Wrote.{Wrote}
 use Rattle.model.specs.declared.Wrote.the-variants.{Bytes, Refused}
 use Rattle.model.proofs.Outcomes.{bind-fine, then-fine}
 use Rattle.model.proofs.Parts.{part-length}
 use Rattle.model.proofs.Tests.{by-test, if-all, if-true, if-false, flag-on, flag-off}
-use Rattle.writing.specs.Parts.{limited, faultIn, listBytes, sizeAnswer}
+use Rattle.writing.specs.Parts.{limited, faultIn, sizeAnswer}
 use Rattle.writing.proofs.GivenItems.{Numbered, then-numbered}
 use Rattle.writing.proofs.Limits.{limited-adds}
 use Rattle.entries.specs.Rows.{rowsIn, seekSize, entriesIn}

@@ -1,30 +1,29 @@
 -- One track in memory: its parts stored one behind the other, and its header before them last.
 use Prim.Native.Nat.{ℕ, _+_, _-_, _*_, _≤_}
 use mathlib.Core.Bool.{Bool, true, false}
-use mathlib.Core.List.{List, [], _∷_, _++_, map, append-assoc}
-use mathlib.Core.Path.{_≡_, refl, sym, _∙_, ap, ap₂}
+use mathlib.Core.List.{List, _++_}
+use mathlib.Core.Path.{_≡_, refl, sym, _∙_, ap}
 use lib.ListN.{length, length-append, drop}
 use lib.Seq.{sets, getD-take, getD-drop}
-use native.Mathlib.Nat.{add-zero}
 use native.Mathlib.Omega.{arith}
 use borrow.Author.Tests.{eq-eqb, ne-eqb}
-use Rattle.model.specs.Words.{if_then_else_, _and_, _≡?_, Placed, Checked, Checked.fine, passed, _>>=_, _>>_}
+use Rattle.model.specs.Words.{if_then_else_, _and_, _≡?_, Placed, Checked.fine}
 use Rattle.model.specs.Bytes.{_!_, part, MTR, Mtsq}
 use Rattle.model.specs.ChunkBytes.{numberBytes, chunkBytes}
 use Rattle.model.specs.Item.{Item, isFine, found}
 use Rattle.model.specs.Seek.{Entry}
-use Rattle.model.specs.Track.{pointWidth, fixedFits, pointsOf}
+use Rattle.model.specs.Track.{pointWidth, fixedFits}
 use Rattle.model.specs.Plain.{bytesOf}
 use Rattle.model.specs.Content.{Content, handyPhone}
-use Rattle.model.specs.Writing.{itemsGiven, itemsPlaced}
+use Rattle.model.specs.Writing.{itemsGiven}
 use Rattle.model.specs.SeekBytes.{entriesGiven}
-use Rattle.model.specs.Arrangement.{ScoreTrack, hasPhrases, seekChunk, trackBytes}
-use Rattle.model.specs.Tables.{Given, fixedGiven, trackGiven}
+use Rattle.model.specs.Arrangement.{hasPhrases, seekChunk, trackBytes}
+use Rattle.model.specs.Tables.{fixedGiven, trackGiven}
 use Rattle.model.specs.declared.Voice.the-variants.{Score}
 use Rattle.model.proofs.Outcomes.{then-fine, bind-fine, fine-some}
 use Rattle.model.proofs.Parts.{part-length}
 use Rattle.model.proofs.Stores.{sets-append}
-use Rattle.model.proofs.Tests.{if-true, if-false, by-test}
+use Rattle.model.proofs.Tests.{by-test}
 use Rattle.writing.specs.Parts.{listBytes}
 use Rattle.entries.specs.Rows.{entriesIn}
 use Rattle.entries.proofs.Overlaps.{sets-later}

@@ -1,18 +1,17 @@
 -- The tracks that are left in the two tables, from places on: none, or one and those behind it.
 use Prim.Native.Nat.{ℕ, zero, suc, _+_, _-_, _<_, _≤_}
-use mathlib.Core.Bool.{true, false}
+use mathlib.Core.Bool.{false}
 use mathlib.Core.List.{List, [], _∷_}
 use mathlib.Core.Path.{_≡_, refl, sym, _∙_, ap, ap₂}
 use lib.ListN.{length, drop, length-drop}
 use native.Mathlib.Decide.{decLt}
 use native.Mathlib.Omega.{arith}
 use borrow.Author.Tests.{lt-ltb, le-ltb}
-use Rattle.model.specs.Words.{if_then_else_, _or_, _<?_}
-use Rattle.model.specs.Tables.{Given, numbersTaken, bytesTaken, firstGiven, givenFrom, givenIn}
+use Rattle.model.specs.Words.{_or_, _<?_}
+use Rattle.model.specs.Tables.{Given, givenFrom, givenIn}
 use Rattle.model.proofs.Tests.{if-true, if-false, first-true, second-true, neither-true, by-test}
 use Rattle.arranging.specs.declared.tables.Stretches.{Stretches}
 use Rattle.arranging.specs.Apart.{givenAt, Apart}
-use Rattle.arranging.proofs.Clipping.{clip-next}
 
 -- what is left from two places on, with turns enough
 pub record Left (numbers bytes : List ℕ) (p q : ℕ) (left : List Given) : Type 0 where

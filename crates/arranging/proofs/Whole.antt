@@ -1,17 +1,15 @@
 -- The whole file: its parts stored one after the other, its size and its answer.
-use Prim.Native.Nat.{ℕ, zero, suc, _+_, _/_, _%_, _<_, _≤_}
-use mathlib.Core.Bool.{true}
-use mathlib.Core.List.{List, [], _∷_, _++_, append-assoc}
-use mathlib.Core.Path.{_≡_, refl, sym, _∙_, ap}
-use lib.ListN.{length, take, drop, length-append, length-take}
+use Prim.Native.Nat.{ℕ, _+_, _<_, _≤_}
+use mathlib.Core.List.{List, _++_, append-assoc}
+use mathlib.Core.Path.{_≡_, sym, _∙_, ap}
+use lib.ListN.{length, take, length-append, length-take}
 use lib.Seq.{sets, sets-eq, take-at}
 use native.Mathlib.Omega.{arith}
 use borrow.Author.Tests.{lt-ltb, le-ltb}
-use Rattle.model.specs.Words.{if_then_else_, _or_, _<?_, Checked, Checked.fine, Checked.refused, passed, _>>=_, _>>_}
+use Rattle.model.specs.Words.{if_then_else_, _or_, Checked, Checked.fine, Checked.refused, _>>_}
 use Rattle.model.specs.Bytes.{part, MMMD, CNTI}
 use Rattle.model.specs.CheckCode.{checkCode}
 use Rattle.model.specs.ChunkBytes.{numberBytes, chunkBytes, withCheckCode}
-use Rattle.model.specs.Item.{isFine}
 use Rattle.model.specs.Tables.{givenIn, tracksFrom}
 use Rattle.model.specs.Answer.{withinRoom, memoryAfter, writeAnswer, writeRoom}
 use Rattle.model.specs.declared.Wrote.{Wrote}

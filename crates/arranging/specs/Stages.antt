@@ -1,16 +1,12 @@
 -- The stages of a write: which tracks there are (6, 7), what one comes to, what all of them do, and how many bytes that takes.
 use Prim.Native.Nat.{ℕ, _+_}
 use mathlib.Core.List.{List, [], _++_}
-use mathlib.Core.Bool.{Bool}
 use lib.ListN.{length, take}
-use Rattle.model.specs.Words.{if_then_else_, _<?_, _≡?_, Placed, Checked, Checked.fine, Checked.refused, passed, _>>=_, _>>_}
+use Rattle.model.specs.Words.{if_then_else_, _<?_, _≡?_, Checked, Checked.fine, Checked.refused, passed, _>>=_, _>>_}
 use Rattle.model.specs.Bytes.{_!_, part, MMMD, CNTI, Mtsq}
 use Rattle.model.specs.Item.{found}
-use Rattle.model.specs.Seek.{Entry}
 use Rattle.model.specs.Track.{pointWidth}
-use Rattle.model.specs.Plain.{bytesOf}
-use Rattle.model.specs.Content.{Content, handyPhone}
-use Rattle.model.specs.Writing.{itemsGiven, itemsPlaced}
+use Rattle.model.specs.Writing.{itemsGiven}
 use Rattle.model.specs.SeekBytes.{entriesGiven}
 use Rattle.model.specs.ChunkBytes.{numberBytes, chunkBytes, withCheckCode}
 use Rattle.model.specs.Arrangement.{ScoreTrack, seekChunk, trackBytes, tracksBytes}

@@ -1,25 +1,21 @@
 -- The bytes of rows are those of the entries that they give, and so is the size of their chunk.
 use Prim.Native.Nat.{ℕ}
 use mathlib.Core.List.{List, [], _∷_, _++_}
-use mathlib.Core.Bool.{Bool, true, false, false≢true}
-use mathlib.Core.Path.{_≡_, refl, sym, _∙_, ap, ap₂}
+use mathlib.Core.Bool.{Bool, true}
+use mathlib.Core.Path.{_≡_, refl, _∙_, ap, ap₂}
 use lib.ListN.{length}
 use native.Mathlib.Omega.{arith}
-use Rattle.model.specs.Words.{if_then_else_, Placed, Checked, Checked.fine, Checked.refused, toldAt}
+use Rattle.model.specs.Words.{if_then_else_}
 use Rattle.model.specs.Item.{isFine, found}
 use Rattle.model.specs.Seek.{Entry, Entry.start, Entry.stop, Entry.phrase, Entry.order}
 use Rattle.model.specs.Track.{pointWidth}
 use Rattle.model.specs.ChunkBytes.{numberBytes, chunkBytes}
-use Rattle.model.specs.SeekBytes.{dataBytes, entryBytes, furtherBytes, seekBytes, entriesPlaced, entriesGiven}
+use Rattle.model.specs.SeekBytes.{dataBytes, entryBytes, furtherBytes, seekBytes, entriesGiven}
 use Rattle.model.specs.Arrangement.{seekChunk}
-use Rattle.model.specs.declared.Wrote.{Wrote}
-use Rattle.model.specs.declared.Wrote.the-variants.{Bytes, Refused}
-use Rattle.model.proofs.Tests.{flag-on, flag-off}
-use Rattle.writing.specs.Parts.{limited}
 use Rattle.entries.specs.declared.row.Row.{Row}
 use Rattle.entries.specs.Rows.{rowsIn, dataOf, rowBytes, rowsBytes, seekSize, entriesIn}
 use Rattle.entries.proofs.RowIs.{RowIs, row-tag}
-use Rattle.entries.proofs.GivenEntries.{RowsAre, given-entries, given-twelve}
+use Rattle.entries.proofs.GivenEntries.{RowsAre, given-entries}
 
 module _ (phrases : Bool) (letters : List ℕ) where
   row-data : (row : Row) (entry : Entry) → RowIs letters row entry → dataOf phrases letters row ≡ dataBytes (pointWidth phrases) entry

@@ -4,7 +4,7 @@ use mathlib.Core.List.{List, _∷_}
 use mathlib.Core.Bool.{Bool, true, false, not}
 use mathlib.Core.Path.{_≡_, refl, sym, _∙_, ap}
 use lib.ListN.{length}
-use borrow.Author.Tests.{lt-ltb, le-ltb, eq-eqb, ne-eqb}
+use borrow.Author.Tests.{lt-ltb, le-ltb, ne-eqb}
 use Rattle.model.specs.Words.{if_then_else_, _and_, _<?_, _≤?_, _≡?_}
 use Rattle.model.specs.Points.{isSpan}
 use Rattle.model.proofs.Tests.{first-false, flag-on, flag-off, not-on, not-off}

@@ -10,8 +10,8 @@ use lib.Seq.{getD-drop, drop-drop}
 use native.Mathlib.Nat.{sub-zero}
 use native.Mathlib.Decide.{decLt}
 use native.Mathlib.Omega.{arith}
-use borrow.Author.Tests.{eq-eqb, ne-eqb, le-ltb, lt-ltb}
-use Rattle.model.specs.Words.{_and_, _or_, _≡?_}
+use borrow.Author.Tests.{eq-eqb, ne-eqb}
+use Rattle.model.specs.Words.{_or_, _≡?_}
 use Rattle.model.specs.Bytes.{_!_}
 use Rattle.model.specs.Writing.{itemGiven}
 use Rattle.model.specs.declared.Voice.the-variants.{Score}

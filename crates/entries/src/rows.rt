@@ -113,7 +113,14 @@ pub fn judge_entries(
     }
     let ordered = has_list(entries);
     let listed = list_length(ordered, letters);
-    let judged = judge_rows(phrases, source, items, start_value(entries), listed, entries);
+    let judged = judge_rows(
+        phrases,
+        source,
+        items,
+        start_value(entries),
+        listed,
+        entries,
+    );
     let front = judged.front;
     if !judged.holds {
         return Told { fault: 13, front };

@@ -1,22 +1,22 @@
 -- Demand 2: items that are given to be written, and have no fault, are a sequence: there is one at least, and each can be written.
-use Prim.Native.Nat.{ℕ, zero, suc, _+_, _/_, _<_, _≤_}
+use Prim.Native.Nat.{ℕ, zero, suc, _+_, _/_, _<_}
 use mathlib.Core.Bool.{true}
-use mathlib.Core.List.{List, [], _∷_}
-use mathlib.Core.Logic.{_⊎_, inl, inr}
-use mathlib.Core.Path.{_≡_, refl, sym, _∙_, ap, subst}
+use mathlib.Core.List.{List, []}
+use mathlib.Core.Logic.{inl, inr}
+use mathlib.Core.Path.{_≡_, refl, sym, ap, subst}
 use lib.ListN.{length, drop}
 use native.Mathlib.Omega.{arith}
 use borrow.Author.Tests.{le-leb, eqb-false}
-use Rattle.model.specs.Words.{if_then_else_, _≤?_, _≡?_, Checked.fine, _>>=_, toldAt}
+use Rattle.model.specs.Words.{_≤?_, _≡?_, Checked.fine}
 use Rattle.model.specs.Bytes.{_!_}
-use Rattle.model.specs.Item.{Item, Item.timed, Item.endMark}
-use Rattle.model.specs.Content.{Content, contentOf}
+use Rattle.model.specs.Item.{Item}
+use Rattle.model.specs.Content.{Content}
 use Rattle.model.specs.Writing.{itemFits, eventIn, itemGiven, itemsFrom, itemsGiven}
 use Rattle.model.specs.declared.Voice.{Voice}
 use Rattle.model.proofs.Outcomes.{not-refused-fine, past-fine}
 use Rattle.model.proofs.Tests.{if-all, both-true}
 use Rattle.writing.proofs.ContentFits.{HasBytes, content-fits}
-use Rattle.writing.proofs.GivenItems.{GivenMark, GivenEvent, given-so}
+use Rattle.writing.proofs.GivenItems.{given-so}
 use Rattle.writing.proofs.Listed.{ahead, ahead-fine}
 use Rattle.inverse.proofs.Sequence.{AllFit}
 

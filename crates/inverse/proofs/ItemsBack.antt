@@ -1,11 +1,10 @@
 -- Demand 2, "a written sequence reads back as exactly the items it was written from", for a list of items that `write_items` wrote into lent memory: the bytes that
 -- it reports are a body, and its items are those that were given.
-use Prim.Native.Nat.{ℕ, _≤_}
+use Prim.Native.Nat.{ℕ}
 use mathlib.Core.List.{List}
-use mathlib.Core.Path.{_≡_, refl, sym, _∙_, ap, subst}
+use mathlib.Core.Path.{_≡_, refl, sym, _∙_}
 use lib.ListN.{length, take}
 use lib.Seq.{take-at}
-use native.Mathlib.Omega.{arith}
 use Rattle.model.specs.Words.{Placed, Checked, Checked.fine}
 use Rattle.model.specs.Item.{Item, bodyOf}
 use Rattle.model.specs.Plain.{bytesOf}

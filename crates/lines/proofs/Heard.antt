@@ -2,14 +2,13 @@
 -- listed as the messages themselves.
 use Prim.Native.Nat.{ℕ, zero, suc, _+_, _*_, _<_, _≤_, min}
 use mathlib.Core.List.{List, [], _∷_, _++_, map}
-use mathlib.Core.Option.{some}
 use mathlib.Core.Path.{_≡_, refl, sym, _∙_, ap, ap₂, subst}
 use lib.ListN.{length, drop, length-append, length-map}
 use lib.Seq.{sets}
 use native.Mathlib.Omega.{arith}
 use borrow.Author.Tests.{ltb-false}
 use Rattle.sections.specs.Spans.{Rising}
-use Rattle.model.specs.Words.{if_then_else_, _<?_, _≤?_, Checked, Checked.fine, Checked.refused}
+use Rattle.model.specs.Words.{_<?_, Checked, Checked.fine, Checked.refused}
 use Rattle.model.specs.Bytes.{_!_}
 use Rattle.model.specs.Play.{At, Tune}
 use Rattle.model.specs.Word.{wordOf, InWord}
@@ -21,7 +20,6 @@ use Rattle.model.specs.declared.Event.{Event}
 use Rattle.model.specs.declared.PlayAnswer.{PlayAnswer}
 use Rattle.model.specs.declared.PlayAnswer.the-variants as play
 use Rattle.model.proofs.Outcomes.{then-fine, bind-fine}
-use Rattle.model.proofs.Tests.{by-test, if-true, if-false}
 use Rattle.inverse.proofs.WordBack.{word-back}
 use Rattle.items.proofs.Standing.{body-stands}
 use Rattle.sections.proofs.Small.{lasting-short}

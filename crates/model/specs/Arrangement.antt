@@ -3,7 +3,6 @@
 use Prim.Native.Nat.{ℕ, _+_, _*_}
 use mathlib.Core.List.{List, [], _∷_, _++_}
 use mathlib.Core.Bool.{Bool}
-use lib.ListN.{length}
 use Rattle.model.specs.Words.{_≡?_}
 use Rattle.model.specs.Bytes.{_!_, CNTI, MTR, MspI, Mtsq}
 use Rattle.model.specs.Item.{Item}

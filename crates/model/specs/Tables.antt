@@ -4,7 +4,6 @@
 -- table's end, it means what is left. A track is there where its four counts and seven bytes are.
 use Prim.Native.Nat.{ℕ, zero, suc, _+_, _*_}
 use mathlib.Core.List.{List, [], _∷_, map}
-use mathlib.Core.Bool.{Bool}
 use lib.ListN.{length, take, drop}
 use Rattle.model.specs.Words.{if_then_else_, _and_, _or_, _<?_, _≡?_, any, Checked, Checked.fine, Checked.refused, passed, _>>=_, _>>_, toldAt}
 use Rattle.model.specs.Bytes.{_!_, part}

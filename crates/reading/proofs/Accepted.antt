@@ -1,13 +1,12 @@
 -- What an accepted file is made of: its frame, the chunks of its top level one after the other, and what each of them was opened as.
 use Prim.Native.Nat.{ℕ, _+_, _-_, _≤_}
 use mathlib.Core.Path.{_≡_, refl, sym, _∙_, ap, subst}
-use mathlib.Core.Bool.{Bool, true, false, false≢true}
 use mathlib.Core.List.{List, [], _∷_}
 use mathlib.Core.Option.{Option, none, some}
 use lib.ListN.{length, take}
 use native.Mathlib.Omega.{arith}
 use borrow.Author.Tests.{ltb-false, eqb-true}
-use Rattle.model.specs.Words.{if_then_else_, _or_, _<?_, _≡?_, Checked, Checked.fine, Checked.refused, passed, Step.met, each}
+use Rattle.model.specs.Words.{_<?_, _≡?_, Checked, Checked.fine, Checked.refused, passed, Step.met, each}
 use Rattle.model.specs.Bytes.{number}
 use Rattle.model.specs.CheckCode.{checkCode}
 use Rattle.model.specs.Item.{isFine, found}

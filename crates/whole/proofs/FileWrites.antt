@@ -1,5 +1,5 @@
 -- Ticket 3, "writing what was read gives the same bytes": a file in the layout, with a right check code, is written again as it was.
-use Prim.Native.Nat.{ℕ, _+_, _-_}
+use Prim.Native.Nat.{ℕ, _-_}
 use mathlib.Core.Bool.{true}
 use mathlib.Core.List.{List, [], _∷_, _++_, map}
 use mathlib.Core.Path.{_≡_, refl, sym, _∙_, ap, ap₂}

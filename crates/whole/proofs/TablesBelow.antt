@@ -1,5 +1,5 @@
 -- Ticket 3: the two tables of what a file in the layout holds are of 32-bit numbers and of bytes, so that a caller can lend them to the writer as they are.
-use Prim.Native.Nat.{ℕ, _+_, _%_, _<_, _≤_}
+use Prim.Native.Nat.{ℕ, _%_, _<_, _≤_}
 use mathlib.Core.Bool.{true}
 use mathlib.Core.List.{List, [], _∷_, _++_}
 use mathlib.Core.Option.{Option, none, some}

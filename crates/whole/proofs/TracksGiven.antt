@@ -6,7 +6,7 @@ use mathlib.Core.Path.{_≡_, refl, sym, ap, subst}
 use lib.ListN.{length, take, drop, length-take, length-drop}
 use native.Mathlib.Omega.{arith}
 use borrow.Author.Tests.{eqb-false, ltb-false}
-use Rattle.model.specs.Words.{_<?_, _≡?_, _or_, any, Checked.fine, passed}
+use Rattle.model.specs.Words.{_<?_, _≡?_, any, Checked.fine, passed}
 use Rattle.model.specs.Bytes.{_!_}
 use Rattle.model.specs.Arrangement.{ScoreTrack, Arrangement}
 use Rattle.model.specs.Tables.{Given, numbersTaken, bytesTaken, firstGiven, givenFrom, givenIn, onceFrom, trackGiven, tracksFrom, arrangementOf}

@@ -1,13 +1,13 @@
 -- The answer to a write of items and the memory after it, from what was found before the first store.
 use Prim.Native.Nat.{ℕ, _+_, _<_, _≤_}
 use mathlib.Core.Bool.{true}
-use mathlib.Core.List.{List, [], _∷_, _++_}
+use mathlib.Core.List.{List, _++_}
 use mathlib.Core.Path.{_≡_, refl, sym, _∙_, ap}
 use lib.ListN.{length, drop}
 use lib.Seq.{sets, sets-eq}
 use native.Mathlib.Omega.{arith}
-use borrow.Author.Tests.{le-ltb, lt-ltb, ltb-true, ltb-false}
-use Rattle.model.specs.Words.{if_then_else_, _or_, _<?_, Checked, Checked.fine, Checked.refused, _>>=_}
+use borrow.Author.Tests.{le-ltb, lt-ltb}
+use Rattle.model.specs.Words.{if_then_else_, _or_, Checked, Checked.fine, Checked.refused, _>>=_}
 use Rattle.model.specs.Item.{Item, isFine}
 use Rattle.model.specs.Plain.{bytesOf}
 use Rattle.model.specs.Content.{Content, handyPhone}
@@ -16,7 +16,6 @@ use Rattle.model.specs.Answer.{writtenOver, memoryAfter, withinRoom, writeItems
 use Rattle.model.specs.declared.Voice.{Voice}
 use Rattle.model.specs.declared.Wrote.{Wrote}
 use Rattle.model.specs.declared.Wrote.the-variants.{Bytes, Refused}
-use Rattle.model.proofs.Tests.{by-test}
 use Rattle.writing.specs.Parts.{limited, listBytes, sizeAnswer}
 use Rattle.writing.proofs.Limits.{limited-over, limited-exact}
 

@@ -1,24 +1,22 @@
 -- A list of items that can be written, stored one after the other: the invariant of `write_list`'s loop, that what is still to be stored makes the whole, and what
 -- each turn and the end make of it.
-use Prim.Native.Nat.{ℕ, _+_, _-_, _*_, _/_, _<_, _≤_}
+use Prim.Native.Nat.{ℕ, _+_, _*_, _/_, _<_, _≤_}
 use mathlib.Core.Bool.{true}
 use mathlib.Core.List.{List, [], _∷_, _++_}
 use mathlib.Core.Path.{_≡_, refl, sym, _∙_, ap}
-use lib.ListN.{length, drop, length-append}
+use lib.ListN.{length, length-append}
 use lib.Seq.{sets}
 use native.Mathlib.Nat.{add-zero, sub-zero}
 use native.Mathlib.Omega.{arith}
-use borrow.Author.Tests.{ne-eqb}
-use Rattle.model.specs.Words.{if_then_else_, _≡?_, Checked, Checked.fine}
+use Rattle.model.specs.Words.{_≡?_, Checked, Checked.fine}
 use Rattle.model.specs.Bytes.{_!_}
 use Rattle.model.specs.Item.{Item, isFine}
-use Rattle.model.specs.Plain.{itemBytes, bytesOf}
+use Rattle.model.specs.Plain.{bytesOf}
 use Rattle.model.specs.Content.{Content, handyPhone}
 use Rattle.model.specs.Writing.{itemGiven, itemsFrom, itemsGiven}
 use Rattle.model.specs.declared.Voice.{Voice}
 use Rattle.model.proofs.Outcomes.{fine-some, past-fine}
 use Rattle.model.proofs.Stores.{sets-append}
-use Rattle.model.proofs.Tests.{if-false}
 use Rattle.writing.specs.Parts.{givenBytes, listBytes}
 use Rattle.writing.proofs.Listed.{ahead-fine, from, listed-next, listed-over}
 

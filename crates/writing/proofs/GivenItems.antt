@@ -7,19 +7,19 @@ use mathlib.Core.Path.{_≡_, refl, sym, _∙_, ap}
 use lib.ListN.{length}
 use lib.Seq.{sets}
 use native.Mathlib.Omega.{arith}
-use borrow.Author.Tests.{eq-eqb, ne-eqb, eqb-true, eqb-false, le-leb, le-ltb, lt-ltb, ltb-false, leb-true}
-use Rattle.model.specs.Words.{if_then_else_, _and_, _or_, _<?_, _≤?_, _≡?_, Checked, Checked.fine, Checked.refused, passed, _>>=_, _>>_}
+use borrow.Author.Tests.{ne-eqb, eqb-true, eqb-false, le-leb, le-ltb, lt-ltb, ltb-false, leb-true}
+use Rattle.model.specs.Words.{if_then_else_, _and_, _or_, _<?_, _≤?_, _≡?_, Checked, Checked.fine, Checked.refused, passed, _>>_}
 use Rattle.model.specs.Duration.{durationBytes}
 use Rattle.model.specs.Event.{isNote, isWave, hasKind}
 use Rattle.model.specs.Item.{Item, Item.timed, Item.endMark, isFine}
 use Rattle.model.specs.Plain.{itemBytes}
 use Rattle.model.specs.Content.{Content, contentOf, handyPhone}
-use Rattle.model.specs.Writing.{isGate, noteFits, waveFits, valueFits, controlFits, exclusiveFits, eventFits, timedBytes, kindIn, channelIn, valueIn, gateIn, placeIn, sizeIn, eventIn, eventWord, markWord, isKind, soundGiven, eventGiven, wordGiven, itemGiven}
+use Rattle.model.specs.Writing.{isGate, noteFits, waveFits, valueFits, controlFits, exclusiveFits, eventFits, timedBytes, kindIn, channelIn, valueIn, gateIn, eventIn, eventWord, markWord, isKind, soundGiven, eventGiven, wordGiven, itemGiven}
 use Rattle.model.specs.declared.Voice.{Voice}
 use Rattle.model.specs.declared.Voice.the-variants.{Score, Pcm}
 use Rattle.model.specs.declared.Event.{Event}
 use Rattle.model.specs.declared.Event.the-variants.{Nop, Note, Wave, Control, Exclusive}
-use Rattle.model.proofs.Tests.{by-test, if-all, if-true, if-false, and-left, and-right, both-true, flag-on, flag-off}
+use Rattle.model.proofs.Tests.{by-test, if-all, and-left, and-right, both-true, flag-on, flag-off}
 use Rattle.model.proofs.Outcomes.{then-fine, fine-some, not-refused, was-passed, neither-first, neither-second}
 use Rattle.writing.specs.Parts.{eventSize, faultIn, givenSize, givenBytes}
 use Rattle.writing.proofs.Contents.{event-length}

@@ -1,6 +1,6 @@
 -- Sums that are limited: what more than 65,536 comes to.
 use Prim.Native.Nat.{ℕ, _+_, _<_, _≤_}
-use mathlib.Core.Path.{_≡_, refl, sym, _∙_, ap}
+use mathlib.Core.Path.{_≡_, sym, _∙_}
 use native.Mathlib.Omega.{arith}
 use borrow.Author.Tests.{lt-ltb, ltb-true, ltb-false}
 use Rattle.model.specs.Words.{if_then_else_, _<?_}

@@ -1,8 +1,8 @@
 -- The items that a table gives, from an index on.
-use Prim.Native.Nat.{ℕ, zero, suc, _+_, _-_, _*_, _<_, _≤_}
+use Prim.Native.Nat.{ℕ, suc, _+_, _-_, _*_, _<_, _≤_}
 use mathlib.Core.List.{List, [], _∷_}
-use mathlib.Core.Path.{_≡_, refl, sym, _∙_, ap}
-use lib.ListN.{length, drop}
+use mathlib.Core.Path.{_≡_, sym, _∙_, ap}
+use lib.ListN.{drop}
 use lib.Seq.{getD-drop, drop-drop}
 use native.Mathlib.Omega.{arith}
 use Rattle.model.specs.Words.{Checked, Checked.fine, Checked.refused, _>>=_, toldAt}

@@ -1,14 +1,14 @@
 -- Short notes: how the code tells them, their length, and their bytes where a narrow note is given.
 use Prim.Native.Nat.{ℕ, _+_, _*_, _/_, _%_, _<_, _≤_}
 use mathlib.Core.Bool.{Bool, true, false, not, false≢true}
-use mathlib.Core.List.{List, [], _∷_, _++_}
+use mathlib.Core.List.{List, _∷_, _++_}
 use mathlib.Core.Path.{_≡_, refl, sym, _∙_, ap}
 use lib.ListN.{length, set, length-set}
 use lib.Seq.{sets}
 use native.Mathlib.Numerals.{towards-suc}
 use native.Mathlib.Omega.{arith}
-use borrow.Author.Tests.{eq-eqb, ne-eqb, eqb-true, eqb-false, le-leb, leb-true, le-ltb}
-use Rattle.model.specs.Words.{if_then_else_, _and_, _or_, _≤?_, _≡?_}
+use borrow.Author.Tests.{eqb-true, leb-true, le-ltb}
+use Rattle.model.specs.Words.{if_then_else_, _and_, _≤?_, _≡?_}
 use Rattle.model.specs.Event.{isNote}
 use Rattle.model.specs.Item.{isFine}
 use Rattle.model.specs.Plain.{itemBytes}
@@ -17,7 +17,7 @@ use Rattle.model.specs.Writing.{timedBytes, kindIn, channelIn, valueIn, gateIn,
 use Rattle.model.specs.declared.Voice.{Voice}
 use Rattle.model.specs.declared.Voice.the-variants.{Score, Pcm}
 use Rattle.model.specs.declared.Event.the-variants.{Note}
-use Rattle.model.proofs.Tests.{by-test, and-left, and-right, both-true}
+use Rattle.model.proofs.Tests.{and-left, and-right, both-true}
 use Rattle.writing.specs.Parts.{soundBytes, givenBytes, isNarrow, isShortNote, isShort, shortBytes, ShortNote, soundLength}
 use Rattle.writing.proofs.Durations.{one-byte}
 use Rattle.writing.proofs.Contents.{note-fit, note-bytes}

@@ -1,14 +1,9 @@
+-- `arranging::all::check_tracks` meets its contract.
 use borrow.Author.Needs.{needs}
 use Prim.Native.Nat.{_-_}
 use Rattle.arranging.proofs.Checking.{Checking, checks}
 use Rattle.arranging.proofs.all.check_tracks.Statement.{statement}
 use Rattle.arranging.proofs.all.check_tracks.Tie as tie
-use Rattle.arranging.proofs.all.check_tracks.Reads as reads
-use Rattle.arranging.proofs.all.check_tracks.Lts as lts
-use Rattle.arranging.proofs.tables.find_stretches.Reads as find-stretches-reads
-use Rattle.arranging.proofs.tables.further.Reads as further-reads
-use Rattle.arranging.proofs.track.check_at.Reads as check-at-reads
-use Rattle.writing.proofs.limited_sum.Reads as limited-sum-reads
 
 abbrev Inv-loop : tie.InvT-loop
 Inv-loop numbers bytes count p₀ q₀ size₀ i₀ p q size i = Checking numbers bytes count p q size i
@@ -16,51 +11,39 @@ Inv-loop numbers bytes count p₀ q₀ size₀ i₀ p q size i = Checking number
 abbrev μ-loop : tie.MeasureT-loop
 μ-loop numbers bytes count p₀ q₀ size₀ i₀ p q size i = count - i
 
--- src/all.rt:23:9
 further-requires : tie.Need-further-requires Inv-loop μ-loop
 further-requires c κs = search (needs, checks)
 
--- src/all.rt:26:5
 loop-holds : tie.Need-loop-holds Inv-loop μ-loop
 loop-holds c = search (needs, checks)
 
--- src/all.rt:27:13
 find-stretches-requires : tie.Need-find-stretches-requires Inv-loop μ-loop
 find-stretches-requires c κs = search (needs, checks)
 
--- src/all.rt:28:15
 check-at-requires : tie.Need-check-at-requires Inv-loop μ-loop
 check-at-requires c κs = search (needs, checks)
 
--- src/all.rt:29:30
 enum-known-number : tie.Need-enum-known-number Inv-loop μ-loop
 enum-known-number c = search (needs, checks)
 
--- src/all.rt:30:17
 returns : tie.Need-returns Inv-loop μ-loop
 returns c = search (needs, checks)
 
--- src/all.rt:32:28
 enum-known-length : tie.Need-enum-known-length Inv-loop μ-loop
 enum-known-length c = search (needs, checks)
 
--- src/all.rt:33:17
 limited-sum-requires : tie.Need-limited-sum-requires Inv-loop μ-loop
 limited-sum-requires c κs = search (needs, checks)
 
--- src/all.rt:38:9
 add-i : tie.Need-add-i Inv-loop μ-loop
 add-i c = search (needs, checks)
 
--- src/all.rt:26:5
 loop-less : tie.Need-loop-less Inv-loop μ-loop
 loop-less c = search (needs, checks)
 
--- src/all.rt:26:5
 loop-again : tie.Need-loop-again Inv-loop μ-loop
 loop-again c = search (needs, checks)
 
--- src/all.rt:18:1
 returns-2 : tie.Need-returns-2 Inv-loop μ-loop
 returns-2 c = search (needs, checks)
 

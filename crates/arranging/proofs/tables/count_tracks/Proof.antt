@@ -1,15 +1,10 @@
+-- `arranging::tables::count_tracks` meets its contract.
 use borrow.Author.Needs.{needs}
 use Prim.Native.Nat.{_-_}
 use lib.ListN.{length}
 use Rattle.arranging.proofs.Counting.{Counting, counts}
 use Rattle.arranging.proofs.tables.count_tracks.Statement.{statement}
 use Rattle.arranging.proofs.tables.count_tracks.Tie as tie
-use Rattle.arranging.proofs.tables.count_tracks.Reads as reads
-use Rattle.arranging.proofs.tables.count_tracks.Lts as lts
-use Rattle.arranging.proofs.tables.counted.Reads as counted-reads
-use Rattle.arranging.proofs.tables.find_stretches.Reads as find-stretches-reads
-use Rattle.arranging.proofs.tables.further.Reads as further-reads
-use Rattle.arranging.proofs.tables.slot_of.Reads as slot-of-reads
 
 abbrev Inv-loop : tie.InvT-loop
 Inv-loop numbers bytes seen₀ count₀ p₀ q₀ seen count p q = Counting numbers bytes seen count p q
@@ -17,71 +12,54 @@ Inv-loop numbers bytes seen₀ count₀ p₀ q₀ seen count p q = Counting numb
 abbrev μ-loop : tie.MeasureT-loop
 μ-loop numbers bytes seen₀ count₀ p₀ q₀ seen count p q = length numbers - p
 
--- src/tables.rt:77:9
 further-requires : tie.Need-further-requires Inv-loop μ-loop
 further-requires c κs = search (needs, counts)
 
--- src/tables.rt:78:5
 loop-holds : tie.Need-loop-holds Inv-loop μ-loop
 loop-holds c = search (needs, counts)
 
--- src/tables.rt:78:16
 sub-loop : tie.Need-sub-loop Inv-loop μ-loop
 sub-loop c = search (needs, counts)
 
--- src/tables.rt:79:12
 sub-if1 : tie.Need-sub-if1 Inv-loop μ-loop
 sub-if1 c = search (needs, counts)
 
--- src/tables.rt:80:13
 counted-requires : tie.Need-counted-requires Inv-loop μ-loop
 counted-requires c κs = search (needs, counts)
 
--- src/tables.rt:80:13
 returns : tie.Need-returns Inv-loop μ-loop
 returns c = search (needs, counts)
 
--- src/tables.rt:82:30
 shared-slice-read-slot-of : tie.Need-shared-slice-read-slot-of Inv-loop μ-loop
 shared-slice-read-slot-of c = search (needs, counts)
 
--- src/tables.rt:82:13
 slot-of-requires : tie.Need-slot-of-requires Inv-loop μ-loop
 slot-of-requires c κs = search (needs, counts)
 
--- src/tables.rt:83:12
 array-read-if2 : tie.Need-array-read-if2 Inv-loop μ-loop
 array-read-if2 c = search (needs, counts)
 
--- src/tables.rt:84:13
 returns-2 : tie.Need-returns-2 Inv-loop μ-loop
 returns-2 c = search (needs, counts)
 
--- src/tables.rt:89:9
 array-write-seen : tie.Need-array-write-seen Inv-loop μ-loop
 array-write-seen c = search (needs, counts)
 
--- src/tables.rt:90:13
 find-stretches-requires : tie.Need-find-stretches-requires Inv-loop μ-loop
 find-stretches-requires c κs = search (needs, counts)
 
--- src/tables.rt:93:9
 add-count : tie.Need-add-count Inv-loop μ-loop
 add-count c = search (needs, counts)
 
--- src/tables.rt:78:5
 loop-less : tie.Need-loop-less Inv-loop μ-loop
 loop-less c = search (needs, counts)
 
--- src/tables.rt:78:5
 loop-again : tie.Need-loop-again Inv-loop μ-loop
 loop-again c = search (needs, counts)
 
--- src/tables.rt:95:5
 counted-requires-2 : tie.Need-counted-requires-2 Inv-loop μ-loop
 counted-requires-2 c κs = search (needs, counts)
 
--- src/tables.rt:71:1
 returns-3 : tie.Need-returns-3 Inv-loop μ-loop
 returns-3 c = search (needs, counts)
 

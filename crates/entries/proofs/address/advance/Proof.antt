@@ -1,3 +1,4 @@
+-- `advance` goes on item by item. The loop's invariant is the front itself.
 use borrow.Author.Needs.{needs}
 use Rattle.entries.proofs.Reaching.{fronts, front-faulty, front-goes-on}
 use Prim.Native.Nat.{_-_}
@@ -8,10 +9,6 @@ use Rattle.model.proofs.Tests.{is-on}
 use mathlib.Core.Logic.{⊎-elim}
 use Rattle.entries.proofs.address.advance.Statement.{statement}
 use Rattle.entries.proofs.address.advance.Tie as tie
-use Rattle.entries.proofs.address.advance.Reads as reads
-use Rattle.entries.proofs.address.advance.Lts as lts
-use Rattle.writing.proofs.given_length.Reads as given-length-reads
-use Rattle.writing.proofs.is_short.Reads as is-short-reads
 
 abbrev Inv-loop : tie.InvT-loop
 Inv-loop source items address count wanted index₀ place₀ index place = Front source items (record { index = index; place = place })
@@ -19,73 +16,56 @@ Inv-loop source items address count wanted index₀ place₀ index place = Front
 abbrev μ-loop : tie.MeasureT-loop
 μ-loop source items address count wanted index₀ place₀ index place = count - index
 
--- src/address.rt:28:5
 loop-holds : tie.Need-loop-holds Inv-loop μ-loop
 loop-holds c = search (needs, fronts)
 
--- src/address.rt:30:13
 returns : tie.Need-returns Inv-loop μ-loop
 returns c = search (needs, fronts)
 
--- src/address.rt:32:30
 mul-duration : tie.Need-mul-duration Inv-loop μ-loop
 mul-duration c = search (needs, fronts)
 
--- src/address.rt:32:24
 mul-duration-2 : tie.Need-mul-duration-2 Inv-loop μ-loop
 mul-duration-2 c = search (needs, fronts)
 
--- src/address.rt:32:24
 shared-slice-read-duration : tie.Need-shared-slice-read-duration Inv-loop μ-loop
 shared-slice-read-duration c = search (needs, fronts)
 
--- src/address.rt:33:26
 mul-word : tie.Need-mul-word Inv-loop μ-loop
 mul-word c = search (needs, fronts)
 
--- src/address.rt:33:26
 add-word : tie.Need-add-word Inv-loop μ-loop
 add-word c = search (needs, fronts)
 
--- src/address.rt:33:20
 mul-word-2 : tie.Need-mul-word-2 Inv-loop μ-loop
 mul-word-2 c = search (needs, fronts)
 
--- src/address.rt:33:20
 shared-slice-read-word : tie.Need-shared-slice-read-word Inv-loop μ-loop
 shared-slice-read-word c = search (needs, fronts)
 
--- src/address.rt:34:12
 is-short-requires : tie.Need-is-short-requires Inv-loop μ-loop
 is-short-requires c κs = search (needs, fronts)
 
--- src/address.rt:35:13
 add-place : tie.Need-add-place Inv-loop μ-loop
 add-place c = search (needs, fronts)
 
--- src/address.rt:37:17
 given-length-requires : tie.Need-given-length-requires Inv-loop μ-loop
 given-length-requires c κs = search (needs, fronts)
 
--- src/address.rt:39:17
 returns-2 : tie.Need-returns-2 Inv-loop μ-loop
 returns-2 c =
     let l = c .before .before .before .before .before .before .before .before in
     front-faulty _ _ _ _ _ (l .loop .inv) (omega arith) _ (c .before .given-length .ensures .0) (search needs)
 
--- src/address.rt:41:13
 add-place-2 : tie.Need-add-place-2 Inv-loop μ-loop
 add-place-2 c = search (needs, fronts)
 
--- src/address.rt:43:9
 add-index : tie.Need-add-index Inv-loop μ-loop
 add-index c = search (needs, fronts)
 
--- src/address.rt:28:5
 loop-less : tie.Need-loop-less Inv-loop μ-loop
 loop-less c = search (needs, fronts)
 
--- src/address.rt:28:5
 loop-again : tie.Need-loop-again Inv-loop μ-loop
 loop-again c =
     let l = c .before .before .before .before .before .before in
@@ -95,7 +75,6 @@ loop-again c =
     (λ w. rw (w .3) (front-goes-on _ _ _ _ address (l .loop .inv) (omega arith) _ (w .1 .ensures .0) (w .2 .left) (w .1 .ensures .1) (omega arith) (search needs)))
     (c .if2 .came)
 
--- src/address.rt:20:1
 returns-3 : tie.Need-returns-3 Inv-loop μ-loop
 returns-3 c = search (needs, fronts)
 

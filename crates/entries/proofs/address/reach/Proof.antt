@@ -1,11 +1,9 @@
+-- `reach` tells whether a number is an address. The loop's invariant is `Reaching`.
 use borrow.Author.Needs.{needs}
 use Rattle.entries.proofs.Reaching.{Reaching, reaching}
 use Prim.Native.Nat.{_-_}
 use Rattle.entries.proofs.address.reach.Statement.{statement}
 use Rattle.entries.proofs.address.reach.Tie as tie
-use Rattle.entries.proofs.address.reach.Reads as reads
-use Rattle.entries.proofs.address.reach.Lts as lts
-use Rattle.writing.proofs.given_size.Reads as given-size-reads
 
 abbrev Inv-loop : tie.InvT-loop
 Inv-loop items address count wanted place₀ index₀ place index = Reaching items count address index place
@@ -13,63 +11,48 @@ Inv-loop items address count wanted place₀ index₀ place index = Reaching ite
 abbrev μ-loop : tie.MeasureT-loop
 μ-loop items address count wanted place₀ index₀ place index = count - index
 
--- src/address.rt:56:5
 loop-holds : tie.Need-loop-holds Inv-loop μ-loop
 loop-holds c = search (needs, reaching)
 
--- src/address.rt:58:13
 returns : tie.Need-returns Inv-loop μ-loop
 returns c = search (needs, reaching)
 
--- src/address.rt:60:35
 mul-given-size : tie.Need-mul-given-size Inv-loop μ-loop
 mul-given-size c = search (needs, reaching)
 
--- src/address.rt:60:29
 mul-given-size-2 : tie.Need-mul-given-size-2 Inv-loop μ-loop
 mul-given-size-2 c = search (needs, reaching)
 
--- src/address.rt:60:29
 shared-slice-read-given-size : tie.Need-shared-slice-read-given-size Inv-loop μ-loop
 shared-slice-read-given-size c = search (needs, reaching)
 
--- src/address.rt:60:53
 mul-given-size-3 : tie.Need-mul-given-size-3 Inv-loop μ-loop
 mul-given-size-3 c = search (needs, reaching)
 
--- src/address.rt:60:53
 add-given-size : tie.Need-add-given-size Inv-loop μ-loop
 add-given-size c = search (needs, reaching)
 
--- src/address.rt:60:47
 mul-given-size-4 : tie.Need-mul-given-size-4 Inv-loop μ-loop
 mul-given-size-4 c = search (needs, reaching)
 
--- src/address.rt:60:47
 shared-slice-read-given-size-2 : tie.Need-shared-slice-read-given-size-2 Inv-loop μ-loop
 shared-slice-read-given-size-2 c = search (needs, reaching)
 
--- src/address.rt:60:18
 given-size-requires : tie.Need-given-size-requires Inv-loop μ-loop
 given-size-requires c κs = search (needs, reaching)
 
--- src/address.rt:60:9
 add-place : tie.Need-add-place Inv-loop μ-loop
 add-place c = search (needs, reaching)
 
--- src/address.rt:61:9
 add-index : tie.Need-add-index Inv-loop μ-loop
 add-index c = search (needs, reaching)
 
--- src/address.rt:56:5
 loop-less : tie.Need-loop-less Inv-loop μ-loop
 loop-less c = search (needs, reaching)
 
--- src/address.rt:56:5
 loop-again : tie.Need-loop-again Inv-loop μ-loop
 loop-again c = search (needs, reaching)
 
--- src/address.rt:49:1
 returns-2 : tie.Need-returns-2 Inv-loop μ-loop
 returns-2 c = search (needs, reaching)
 

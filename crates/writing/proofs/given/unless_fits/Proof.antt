@@ -1,17 +1,13 @@
+-- `writing::given::unless_fits` meets its contract.
 use Rattle.writing.specs.Parts.{faultIn}
-use borrow.Author.Needs.{needs}
 use Rattle.writing.proofs.GivenItems.{tested-faults}
 use Rattle.writing.proofs.given.unless_fits.Statement.{statement}
 use Rattle.writing.proofs.given.unless_fits.Tie as tie
-use Rattle.writing.proofs.given.unless_fits.Reads as reads
-use Rattle.writing.proofs.given.unless_fits.Lts as lts
 
--- src/given.rt:55:9
 returns : tie.Need-returns
 unfolding faultIn
 returns c = search (tested-faults)
 
--- src/given.rt:51:1
 returns-2 : tie.Need-returns-2
 unfolding faultIn
 returns-2 c = search (tested-faults)

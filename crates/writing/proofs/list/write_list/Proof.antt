@@ -1,11 +1,9 @@
+-- `write_list` stores the items one behind the other. The loop's invariant is `Filling`.
 use borrow.Author.Needs.{needs}
 use Prim.Native.Nat.{_-_}
 use Rattle.writing.proofs.Filling.{Filling, fills}
 use Rattle.writing.proofs.list.write_list.Statement.{statement}
 use Rattle.writing.proofs.list.write_list.Tie as tie
-use Rattle.writing.proofs.list.write_list.Reads as reads
-use Rattle.writing.proofs.list.write_list.Lts as lts
-use Rattle.writing.proofs.given.write_given.Reads as write-given-reads
 
 abbrev Inv-loop : tie.InvT-loop
 Inv-loop voice source items out₀ at count next₀ i₀ out next i = Filling voice source items count at out₀ out next i
@@ -13,59 +11,45 @@ Inv-loop voice source items out₀ at count next₀ i₀ out next i = Filling vo
 abbrev μ-loop : tie.MeasureT-loop
 μ-loop voice source items out₀ at count next₀ i₀ out next i = count - i
 
--- src/list.rt:57:5
 loop-holds : tie.Need-loop-holds Inv-loop μ-loop
 loop-holds c = search (needs, fills)
 
--- src/list.rt:58:49
 mul-write-given : tie.Need-mul-write-given Inv-loop μ-loop
 mul-write-given c = search (needs, fills)
 
--- src/list.rt:58:43
 mul-write-given-2 : tie.Need-mul-write-given-2 Inv-loop μ-loop
 mul-write-given-2 c = search (needs, fills)
 
--- src/list.rt:58:43
 shared-slice-read-write-given : tie.Need-shared-slice-read-write-given Inv-loop μ-loop
 shared-slice-read-write-given c = search (needs, fills)
 
--- src/list.rt:58:63
 mul-write-given-3 : tie.Need-mul-write-given-3 Inv-loop μ-loop
 mul-write-given-3 c = search (needs, fills)
 
--- src/list.rt:58:63
 add-write-given : tie.Need-add-write-given Inv-loop μ-loop
 add-write-given c = search (needs, fills)
 
--- src/list.rt:58:57
 mul-write-given-4 : tie.Need-mul-write-given-4 Inv-loop μ-loop
 mul-write-given-4 c = search (needs, fills)
 
--- src/list.rt:58:57
 shared-slice-read-write-given-2 : tie.Need-shared-slice-read-write-given-2 Inv-loop μ-loop
 shared-slice-read-write-given-2 c = search (needs, fills)
 
--- src/list.rt:58:9
 write-given-requires : tie.Need-write-given-requires Inv-loop μ-loop
 write-given-requires c κs = search (needs, fills)
 
--- src/list.rt:59:9
 add-i : tie.Need-add-i Inv-loop μ-loop
 add-i c = search (needs, fills)
 
--- src/list.rt:57:5
 loop-less : tie.Need-loop-less Inv-loop μ-loop
 loop-less c = search (needs, fills)
 
--- src/list.rt:57:5
 loop-again : tie.Need-loop-again Inv-loop μ-loop
 loop-again c = search (needs, fills)
 
--- src/list.rt:48:1
 same-length : tie.Need-same-length Inv-loop μ-loop
 same-length c = search (needs, fills)
 
--- src/list.rt:48:1
 returns : tie.Need-returns Inv-loop μ-loop
 returns c = search (needs, fills)
 

@@ -1,17 +1,13 @@
-use borrow.Author.Needs.{needs}
+-- `is_narrow` tells a note by its word, and its gate time of one byte.
 use Rattle.model.proofs.Tests.{tests, junctions}
 use Rattle.writing.specs.Parts.{isNarrow}
 use Rattle.writing.proofs.short.is_narrow.Statement.{statement}
 use Rattle.writing.proofs.short.is_narrow.Tie as tie
-use Rattle.writing.proofs.short.is_narrow.Reads as reads
-use Rattle.writing.proofs.short.is_narrow.Lts as lts
 
--- src/short.rt:15:9
 returns : tie.Need-returns
 unfolding isNarrow
 returns c = search (tests, junctions)
 
--- src/short.rt:11:1
 returns-2 : tie.Need-returns-2
 unfolding isNarrow
 returns-2 c = search (tests, junctions)

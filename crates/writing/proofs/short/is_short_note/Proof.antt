@@ -1,52 +1,35 @@
+-- `is_short_note` asks the definition's questions of the two numbers, in its order.
 use Rattle.model.proofs.Tests.{tests, junctions}
 use Rattle.writing.specs.Parts.{isShortNote}
 use Rattle.writing.proofs.ShortNotes.{note-bits, gate-bits}
 use borrow.Author.Needs.{needs}
 use Rattle.writing.proofs.short.is_short_note.Statement.{statement}
 use Rattle.writing.proofs.short.is_short_note.Tie as tie
-use Rattle.writing.proofs.short.is_short_note.Reads as reads
-use Rattle.writing.proofs.short.is_short_note.Lts as lts
-use Rattle.items.proofs.is_note.Reads as is-note-reads
 
--- src/short.rt:24:9
 returns : tie.Need-returns
 unfolding isShortNote
 returns c = search (tests, junctions, note-bits, gate-bits) depth 12 fits 20000
 
--- src/short.rt:27:9
 returns-2 : tie.Need-returns-2
 unfolding isShortNote
 returns-2 c = search (tests, junctions, note-bits, gate-bits) depth 12 fits 20000
 
--- src/short.rt:30:9
 returns-3 : tie.Need-returns-3
 unfolding isShortNote
 returns-3 c = search (tests, junctions, note-bits, gate-bits) depth 12 fits 20000
 
--- src/short.rt:33:9
 returns-4 : tie.Need-returns-4
 unfolding isShortNote
 returns-4 c = search (tests, junctions, note-bits, gate-bits) depth 12 fits 20000
 
--- src/short.rt:36:9
 returns-5 : tie.Need-returns-5
 unfolding isShortNote
 returns-5 c = search (tests, junctions, note-bits, gate-bits) depth 12 fits 20000
 
--- src/short.rt:38:17
-cast-is-note : tie.Need-cast-is-note
-cast-is-note c = search needs
-
--- src/short.rt:38:9
-is-note-requires : tie.Need-is-note-requires
-is-note-requires c κs = search needs
-
--- src/short.rt:39:9
 returns-6 : tie.Need-returns-6
 unfolding isShortNote
 returns-6 c = search (tests, junctions, note-bits, gate-bits) depth 12 fits 20000
 
--- src/short.rt:20:1
 returns-7 : tie.Need-returns-7
 unfolding isShortNote
 returns-7 c = search (tests, junctions, note-bits, gate-bits) depth 12 fits 20000
@@ -60,7 +43,7 @@ is-short-note-spec =
     returns-3
     returns-4
     returns-5
-    cast-is-note
-    is-note-requires
+    (λ c. search needs)
+    (λ c κs. search needs)
     returns-6
     returns-7)
