@@ -4,10 +4,6 @@
  * `rt staticlib smaf_c` writes target/staticlib/libsmaf_c.a, for programs on x86-64 Linux. It needs nothing beside the C library's
  * memcpy and memset. The functions keep nothing between calls and reserve no memory.
  *
- * INTERFACE. SMAF_INTERFACE goes up where the interface changes so that callers have to be mended and compiled anew. It is 2: smaf_pitch has a
- * third argument, the bank in force, and its reply a field more, `drum`, before `semitones`. Programs for 1, which had neither, do not work with
- * this library.
- *
  * ARGUMENTS. Lent memory is a pointer and, right behind it, a length in elements. `buffer` holds a file in its first n bytes; what it
  * holds past n alters nothing. Any content, any n, any row number and any length gets an answer.
  *
@@ -69,8 +65,6 @@
 #include <stdbool.h>
 #include <stddef.h>
 #include <stdint.h>
-
-#define SMAF_INTERFACE 2
 
 #ifdef __cplusplus
 extern "C" {
@@ -226,19 +220,14 @@ struct smaf_write_reply {
 struct smaf_write_reply smaf_write(const uint32_t *numbers, size_t numbers_length, const uint8_t *bytes, size_t bytes_length,
                                    uint8_t *room, size_t room_length);
 
-/* PITCH: of a note event's first byte, whose channel bits (the top two) are ignored; the value byte of an octave shift: 0x00 to 0x04 are octaves
- * up, 0x81 to 0x84 one to four octaves down; and the bank in force: from 0x80 on the note is percussion, which has no pitch. Refusal 19 comes
- * first, at any bank. It uses no memory of the caller.
- *
- * A caller that goes through played rows keeps three bytes for each of the four channels, all 0 at first. An octave shift (kind 5) counts at
- * once. A bank (kind 4) comes into force with the next program (kind 3) of the same channel, and sounds no different before. */
+/* PITCH: of a note event's first byte, whose channel bits (the top two) are ignored, and the value byte of an octave shift: 0x00 to 0x04 are
+ * octaves up, 0x81 to 0x84 one to four octaves down. It uses no memory of the caller. */
 struct smaf_pitch_reply {
     uint32_t refusal; /* 0, or 19 */
     size_t place;
-    bool drum; /* whether the note is percussion */
-    int32_t semitones; /* from the A of 440 Hz, -80 to 63; 0 for percussion */
+    int32_t semitones; /* from the A of 440 Hz, -80 to 63 */
 };
-struct smaf_pitch_reply smaf_pitch(uint8_t byte, uint8_t shift, uint8_t bank);
+struct smaf_pitch_reply smaf_pitch(uint8_t byte, uint8_t shift);
 
 /* CHECK CODE: of any bytes, any number of them. A file ends with the check code of all bytes before it, its high byte first: what a read
  * computes and compares. That of no bytes is 0. It refuses nothing. */

@@ -10,7 +10,6 @@ function answer(op,   text, told, lines, k) {
   split(text, word, " ")
   if (word[1] == "refused") told = "0 ∷ " word[2] " ∷ " word[3] " ∷ "
   else if (word[1] == "pitch") told = "4 ∷ " (word[2] < 0 ? "1 ∷ " (-word[2]) : "0 ∷ " word[2]) " ∷ "
-  else if (word[1] == "drum") told = "8 ∷ "
   else if (word[1] == "rows" && word[3] == "code") told = "1 ∷ " hex(word[4]) " ∷ " (word[6] == "yes" ? 1 : 0) " ∷ " rows(word[2])
   else if (word[1] == "rows" && word[3] == "end") told = "2 ∷ " word[4] " ∷ " messages(word[2])
   else if (word[1] == "rows" && op == "items") told = "6 ∷ " items(word[2])
@@ -56,7 +55,7 @@ function listed(   told, text) {
     split(text, word, " ")
     if (word[1] == "end") return word[2] " ∷ " word[3] " ∷ " told
     told = told word[1] " ∷ " word[2] " ∷ " (word[3] == "-" ? 4 : word[3]) " ∷ " kind[word[4]] " ∷ "
-    told = told (word[5] == "drum" ? "2" : word[5] < 0 ? "1 ∷ " (-word[5]) : "0 ∷ " word[5]) " ∷ " word[6] " ∷ "
+    told = told (word[5] < 0 ? "1 ∷ " (-word[5]) : "0 ∷ " word[5]) " ∷ " word[6] " ∷ "
   }
 }
 function finish() {

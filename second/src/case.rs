@@ -6,7 +6,7 @@ use crate::file::{read, Melody};
 use crate::give::{entries, items};
 use crate::listing::listing;
 use crate::numbers::number_at;
-use crate::pitch::{pitch, Pitch};
+use crate::pitch::pitch;
 use crate::plain::flatten;
 use crate::play::{play, word_of, Played};
 use crate::progress::progress;
@@ -174,7 +174,9 @@ impl Case {
             Operation::Flatten => {
                 flatten(&self.buffer, stated, row, room).map(|plain| bytes_text(&plain))
             }
-            Operation::Pitch => pitch(stated as u8, row as u8, self.room as u8).map(Pitch::text),
+            Operation::Pitch => {
+                pitch(stated as u8, row as u8).map(|pitch| format!("pitch {pitch}\n"))
+            }
             Operation::Listing => listing(&self.buffer),
             Operation::Items => {
                 items(&self.buffer, stated, row, room).map(|items| items_text(&items))

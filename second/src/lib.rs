@@ -3,7 +3,6 @@
 //! program.
 
 pub mod case;
-pub mod channels;
 pub mod check;
 pub mod check_code;
 pub mod check_writer;

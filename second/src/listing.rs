@@ -1,9 +1,9 @@
 //! The listing: what the first readable track plays, as lines of text.
 
-use crate::channels::Channels;
 use crate::file::read;
 use crate::item::{Kind, Message};
 use crate::numbers::LARGEST;
+use crate::pitch::pitch;
 use crate::play::{play_track, Played};
 use crate::refusal::{Clause, Refusal};
 use std::fmt::Write;
@@ -32,15 +32,17 @@ pub fn listing(input: &[u8]) -> Result<String, Refusal> {
 
 fn lines(played: &Played, milliseconds: u64) -> String {
     let mut text = String::from("step ms ch kind value gate\n");
-    let mut channels = Channels::default();
+    let mut shifts = [0; 4];
     for (step, message) in &played.messages {
-        channels.step(message);
+        if message.kind == Kind::OctaveShift {
+            shifts[usize::from(message.channel)] = message.value;
+        }
         let channel = match message.kind {
             Kind::Exclusive => String::from("-"),
             _ => message.channel.to_string(),
         };
         let (kind, gate, time) = (kind_name(message.kind), message.gate, step * milliseconds);
-        let value = value_of(message, &channels);
+        let value = value_of(message, &shifts);
         let _ = writeln!(text, "{step} {time} {channel} {kind} {value} {gate}");
     }
     let _ = writeln!(text, "end {} {}", played.end, played.end * milliseconds);
@@ -63,14 +65,17 @@ fn kind_name(kind: Kind) -> &'static str {
     }
 }
 
-/// The printed value, under what the channels have when the message is played.
-fn value_of(message: &Message, channels: &Channels) -> String {
-    let standard = |table: &[u8; 14]| table[usize::from(message.value) - 1].to_string();
+/// The printed value; `shifts` holds each channel's last shift byte.
+fn value_of(message: &Message, shifts: &[u8; 4]) -> i32 {
+    let standard = |table: &[u8; 14]| i32::from(table[usize::from(message.value) - 1]);
     match message.kind {
-        Kind::Note => channels.pitch_of(message).value(),
+        Kind::Note => {
+            let shift = shifts[usize::from(message.channel)];
+            pitch(message.value, shift).expect("a played note has a pitch")
+        }
         Kind::ShortModulation => standard(&SHORT_MODULATION),
         Kind::ShortPitchBend => standard(&SHORT_PITCH_BEND),
         Kind::ShortExpression => standard(&SHORT_EXPRESSION),
-        _ => message.value.to_string(),
+        _ => i32::from(message.value),
     }
 }

@@ -53,7 +53,7 @@ fn run_file(random: &mut Random, file: &[u8], tally: &mut Tally) -> Result<(), S
     tally.files += 1;
     let length = file.len() as u32;
     let stated = if random.percent(90) { length } else { random.next() as u32 % (length + 9) };
-    let _ = pitch(random.byte(), random.byte(), random.byte());
+    let _ = pitch(random.byte(), random.byte());
     let _ = listing(file);
     let _ = play(file, stated, random.below(8) as u32, random.below(200));
     let _ = flatten(file, stated, random.next() as u32, random.below(200));

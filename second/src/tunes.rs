@@ -77,15 +77,6 @@ impl Body {
         }
     }
 
-    /// The same in a bar; what comes next waits for the bar's end.
-    fn bar(&mut self, notes: Vec<(u32, u8, u8, u32)>) {
-        let last = notes.iter().map(|note| note.0).max().unwrap_or(0);
-        let waited = self.wait;
-        let later = |(start, channel, key, length)| (waited + start, channel, key, length);
-        self.together(notes.into_iter().map(later).collect());
-        self.wait = BAR - last;
-    }
-
     fn rest(&mut self, steps: u32) {
         self.wait += steps;
     }
@@ -197,53 +188,6 @@ fn round_of_four() -> Vec<u8> {
         }
     }
     body.together(notes);
-    stream(body)
-}
-
-const BAR: u32 = 4 * QUARTER;
-
-/// An American spiritual, bar by bar.
-const SAINTS: [&[(u8, u32)]; 8] = [
-    &[(0, QUARTER), (60, QUARTER), (64, QUARTER), (65, QUARTER)],
-    &[(67, BAR)],
-    &[(0, QUARTER), (60, QUARTER), (64, QUARTER), (65, QUARTER)],
-    &[(67, BAR)],
-    &[(0, QUARTER), (60, QUARTER), (64, QUARTER), (65, QUARTER)],
-    &[(67, HALF), (64, HALF)],
-    &[(60, HALF), (64, HALF)],
-    &[(62, BAR)],
-];
-
-/// Notes one after the other on a channel from the bar's beginning; the key 0 is a rest.
-fn voice(channel: u8, notes: &[(u8, u32)]) -> Vec<(u32, u8, u8, u32)> {
-    let mut start = 0;
-    let mut placed = Vec::new();
-    for &(key, length) in notes {
-        if key > 0 {
-            placed.push((start, channel, key, length));
-        }
-        start += length;
-    }
-    placed
-}
-
-/// Channel 3 has drums from the beginning. Channel 1 is told the same bank in the seventh bar, and has them in the eighth, when a program comes.
-fn drum_channel() -> Vec<u8> {
-    let mut body = Body::default();
-    body.control(0, 0, 56);
-    body.control(1, 0, 32);
-    body.control(3, 1, 0x80);
-    body.control(3, 0, 0);
-    let drums = [40, 47, 42, 47, 40, 47, 42, 47].map(|key| (key, EIGHTH));
-    let bass = [48, 43, 48, 43].map(|key| (key, QUARTER));
-    for (number, line) in SAINTS.iter().enumerate() {
-        match number {
-            6 => body.control(1, 1, 0x80),
-            7 => body.control(1, 0, 0),
-            _ => {}
-        }
-        body.bar([voice(0, line), voice(1, &bass), voice(3, &drums)].concat());
-    }
     stream(body)
 }
 
@@ -447,7 +391,7 @@ fn bad_duration() -> Vec<u8> {
 }
 
 pub fn all() -> Vec<Tune> {
-    let tunes: [(&'static str, Vec<u8>); 24] = [
+    let tunes: [(&'static str, Vec<u8>); 23] = [
         ("worked", worked_tune()),
         ("ode_to_joy", ode_to_joy()),
         ("second_line", second_line()),
@@ -458,7 +402,6 @@ pub fn all() -> Vec<Tune> {
         ("stopped_order", stopped_order()),
         ("scale_on_four_channels", scale_on_four_channels()),
         ("octave_shifts", octave_shifts()),
-        ("drum_channel", drum_channel()),
         ("short_forms", short_forms()),
         ("exclusives", exclusives()),
         ("waves", waves()),

@@ -48,10 +48,8 @@ fn answers_to_the_tune() {
     let listed = tune_case(Operation::Listing).answer_text();
     assert!(listed.starts_with("step ms ch kind value gate\n0 0 0 program 5 0\n"));
     assert!(listed.ends_with("end 590 2360\n-- kept\n"));
-    let pitch = |event, shift, bank| generate::pitch_case(event, shift, bank).answer_text();
-    assert_eq!(pitch(0x01, 0x84, 0x7F), "pitch -80\n-- kept\n");
-    assert_eq!(pitch(0x01, 0x84, 0x80), "drum\n-- kept\n");
-    assert_eq!(pitch(0x00, 0x00, 0x80), "refused 19 0\n-- kept\n");
+    assert_eq!(generate::pitch_case(0x01, 0x84).answer_text(), "pitch -80\n-- kept\n");
+    assert_eq!(generate::pitch_case(0x00, 0x00).answer_text(), "refused 19 0\n-- kept\n");
 }
 
 #[test]

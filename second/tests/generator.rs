@@ -1,7 +1,7 @@
 //! The generator: every damage hits its clause, every clause comes up, and
 //! what is accepted holds together.
 
-use second::case::{Case, Operation};
+use second::case::Operation;
 use second::check::{plain_plays_the_same, rows_tile};
 use second::clauses::{count, missing};
 use second::file::open;
@@ -222,15 +222,11 @@ fn cases_are_mostly_small_and_the_seed_decides() {
 
 #[test]
 fn all_pitches_come_once() {
-    let numbers = |case: Case| (case.room, case.stated, case.row);
-    let mut all: Vec<(u32, u32, u32)> = all_pitches().map(numbers).collect();
-    all.sort();
-    all.dedup();
-    assert_eq!(all.len(), 4 * 65_536);
-    assert_eq!(all.last(), Some(&(255, 255, 255)));
-    let answers = |text: &str| {
-        all_pitches().filter(|case| case.answer().is_ok_and(|said| said.starts_with(text))).count()
-    };
-    assert_eq!(answers("pitch "), 2 * 4 * 4 * 12 * 9);
-    assert_eq!(answers("drum\n"), 2 * 4 * 4 * 12 * 9);
+    let mut pairs: Vec<(u32, u32)> = all_pitches().map(|case| (case.stated, case.row)).collect();
+    pairs.sort();
+    pairs.dedup();
+    assert_eq!(pairs.len(), 65_536);
+    assert_eq!(pairs.last(), Some(&(255, 255)));
+    let accepted = all_pitches().filter(|case| case.answer().is_ok()).count();
+    assert_eq!(accepted, 4 * 4 * 12 * 9);
 }

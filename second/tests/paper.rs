@@ -6,7 +6,7 @@ use second::check_code::check_code;
 use second::file::{open, read};
 use second::item::{read_sequence, Voice};
 use second::listing::listing;
-use second::pitch::{pitch, Pitch};
+use second::pitch::pitch;
 use second::plain::flatten;
 use second::play::play;
 use second::time_base::TimeBase;
@@ -40,16 +40,15 @@ fn durations() {
 
 #[test]
 fn pitches() {
-    let semitones = |above| Ok(Pitch::Semitones(above));
-    assert_eq!(pitch(0x29, 0, 0), semitones(0));
-    assert_eq!(pitch(0x01, 0, 0), semitones(-32));
-    assert_eq!(pitch(0x3C, 0, 0), semitones(15));
-    assert_eq!(pitch(0xFC, 0x04, 0), semitones(63));
-    assert_eq!(pitch(0xC1, 0x84, 0), semitones(-80));
+    assert_eq!(pitch(0x29, 0), Ok(0));
+    assert_eq!(pitch(0x01, 0), Ok(-32));
+    assert_eq!(pitch(0x3C, 0), Ok(15));
+    assert_eq!(pitch(0xFC, 0x04), Ok(63));
+    assert_eq!(pitch(0xC1, 0x84), Ok(-80));
     for (event, shift) in [(0x00, 0), (0xFF, 0), (0x2D, 0), (0x30, 0), (0x29, 5), (0x29, 0x80)] {
-        assert_eq!(outcome(pitch(event, shift, 0)), (19, 0));
+        assert_eq!(outcome(pitch(event, shift)), (19, 0));
     }
-    assert_eq!(outcome(pitch(0x29, 0x85, 0)), (19, 0));
+    assert_eq!(outcome(pitch(0x29, 0x85)), (19, 0));
 }
 
 #[test]

@@ -250,12 +250,9 @@ static void answer_write(struct test_case asked)
 
 static void answer_pitch(struct test_case asked)
 {
-    struct smaf_pitch_reply reply = smaf_pitch((uint8_t)asked.stated, (uint8_t)asked.row, (uint8_t)asked.room);
-    bool blank = !reply.drum && reply.semitones == 0;
-    put_refusal(reply.refusal == 0 ? reply.place == 0 : blank, reply.refusal, reply.place);
-    if (reply.refusal == 0 && reply.drum)
-        puts(reply.semitones == 0 ? "drum" : "drum with a pitch");
-    else if (reply.refusal == 0)
+    struct smaf_pitch_reply reply = smaf_pitch((uint8_t)asked.stated, (uint8_t)asked.row);
+    put_refusal(reply.refusal == 0 ? reply.place == 0 : reply.semitones == 0, reply.refusal, reply.place);
+    if (reply.refusal == 0)
         printf("pitch %lld\n", (long long)reply.semitones);
     put_kept(true);
 }

@@ -8,7 +8,7 @@ ghost use Rattle.arranging.specs.Stages.{how_many, count_answer};
 use model::Counted;
 
 // Where the parts of a track stand: its items behind its entries, its source behind its letters; and where its numbers and its bytes end.
-#[derive(Drop)]
+#[derive(Clone, Copy)]
 pub struct Stretches {
     pub items: usize,
     pub numbers: usize,

@@ -1,5 +1,7 @@
 // The check code of any bytes, eight at a time by eight tables of 256 remainders, and what is left a byte at a time by the first of
 // them. It is the one that model/specs/CheckCode defines bit by bit.
+#![tactic(auto)]
+
 ghost use Rattle.std.specs.Prelude.{◌≡◌, ◌+◌, ◌%◌, ◌≤◌, ◌<◌, ◌∷◌, length, replicate};
 ghost use Rattle.model.specs.Bytes.{part};
 ghost use Rattle.model.specs.CheckCode.{byte_step, remainder_from, check_code};

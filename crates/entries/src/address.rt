@@ -8,7 +8,7 @@ use model::Voice;
 use writing::{given_length, given_size, is_short};
 
 // So many items, and the place behind them.
-#[derive(Drop)]
+#[derive(Clone, Copy)]
 pub struct Cursor {
     pub index: usize,
     pub place: usize,

@@ -1,5 +1,7 @@
 // Seek entries as they are given to be written, four numbers each and the letters of an order list beside them: their form (12), the rules that they keep (13, 14),
 // and their chunk in lent memory.
+#![tactic(auto)]
+
 mod address;
 mod bytes;
 mod chunk;

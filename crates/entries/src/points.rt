@@ -8,7 +8,7 @@ ghost use Rattle.entries.specs.Rules.{Says, row_holds};
 use super::address::{Cursor, advance, is_address};
 use super::row::Row;
 
-#[derive(Drop)]
+#[derive(Clone, Copy)]
 pub struct Judged {
     pub holds: bool,
     pub front: Cursor,

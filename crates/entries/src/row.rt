@@ -3,7 +3,7 @@ ghost use Rattle.std.specs.Prelude.{◌≡◌, ◌/◌, ◌<◌, length};
 ghost use Rattle.entries.specs.Rows.{row_at};
 
 // The kind is 0 for a start point, 1 for a stop point, 2 for a phrase, 3 for an order list. Numbers that a kind does not use are not looked at.
-#[derive(Drop)]
+#[derive(Clone, Copy)]
 pub struct Row {
     pub kind: u32,
     pub letter: u32,

@@ -90,7 +90,7 @@ fn order_fault(phrases: bool, ordered: bool, letters: &[u8], entries: &[u32]) ->
 }
 
 // The number of a refusal, or 0, and how far the front has come.
-#[derive(Drop)]
+#[derive(Clone, Copy)]
 pub struct Told {
     pub fault: u32,
     pub front: Cursor,

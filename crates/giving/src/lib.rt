@@ -1,5 +1,7 @@
 // Gives a track in the form in which it is written: the items of the track that a row names, two numbers each, and its seek entries, four
 // numbers each, with the letters of its order list, in lent memory (15).
+#![tactic(auto)]
+
 mod named;
 mod operation;
 mod seek_entries;
@@ -9,7 +11,7 @@ use model::Bodies;
 pub use operation::{entries_of, items_of};
 
 // The track that a row names, or a refusal.
-#[derive(Drop)]
+#[derive(Clone, Copy)]
 pub enum NamedTrack {
     At(Bodies),
     Refused { number: u32, place: usize },

@@ -1,5 +1,7 @@
 // The items of a sequence body, read at a place: durations and gate times, events of both voices, items, whole bodies and setup bodies.
 // Each reader answers what the definition of its name in model/specs says, for any bytes and any place.
+#![tactic(auto)]
+
 mod body;
 mod duration;
 mod event;

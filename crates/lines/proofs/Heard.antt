@@ -14,7 +14,6 @@ use Rattle.model.specs.Play.{At, Tune}
 use Rattle.model.specs.Word.{word_of, InWord}
 use Rattle.model.specs.Order.{tune_in}
 use Rattle.model.specs.Answer.{written_over, memory_after, play_of, play_answer, steps_table, words_table}
-use Rattle.model.specs.Channels.{channels_at_first}
 use Rattle.model.specs.Listing.{lines_of}
 use Rattle.model.specs.ListingText.{bytes, lines_text, listing_text}
 use Rattle.model.specs.declared.Event.{Event}
@@ -95,7 +94,7 @@ module _ (tune : Tune Event) (all : OfMessages InWord tune.messages) (base : ℕ
   unfolding tune_text rows_text listing_text tune_listed written_over bytes
   rows_listed =
       let head = bytes "step ms ch kind value gate\n" in
-      ap₂ (λ (messages : List (At Event)) (last : List ℕ). head ++ lines_text (lines_of base channels_at_first messages) ++ last)
+      ap₂ (λ (messages : List (At Event)) (last : List ℕ). head ++ lines_text (lines_of base (0 ∷ 0 ∷ 0 ∷ 0 ∷ []) messages) ++ last)
       (rows_say tune.messages (drop (length (map (λ at. at.step) tune.messages)) steps) (drop (length (map (λ at. word_of at.event) tune.messages)) words) all)
       (sym (pair_fields (bytes "end") tune.end (tune.end * base)))
 

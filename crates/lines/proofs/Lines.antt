@@ -1,13 +1,13 @@
--- Lines: what each event prints, and a line in its parts.
+-- Lines: what each event prints, the shifts after it, and a line in its parts.
 use Prim.Native.Nat.{ℕ, ◌+◌}
 use mathlib.Core.List.{List, ◌++◌, append_assoc}
 use mathlib.Core.Path.{◌≡◌, sym, ◌∙◌, ap, ap₂}
-use lib.ListN.{length}
+use lib.ListN.{length, get_or, set}
 use lib.Seq.{sets}
-use Rattle.model.specs.Channels.{channel_at}
-use Rattle.model.specs.Listing.{Line, long_kind_of, long_value_of, line_of}
+use borrow.Author.Tests.{eq-eqb, ne_eqb}
+use Rattle.model.specs.Words.{if◌then◌else◌}
+use Rattle.model.specs.Listing.{Line, shiftsAfter, long_kind_of, long_value_of, line_of}
 use Rattle.model.specs.ListingText.{fields, line_text}
-use Rattle.model.specs.declared.Channel.{Channel}
 use Rattle.model.specs.declared.Event.{Event}
 use Rattle.model.specs.declared.Event.TheVariants.{Nop, Note, Wave, Control, Exclusive}
 use Rattle.lines.specs.declared.line.Printed.{Printed}
@@ -15,32 +15,61 @@ use Rattle.lines.proofs.Numbers.{joined_next, joined_written}
 use Rattle.lines.specs.Fields.{closed, said, note_line, voiced_line, unvoiced_line, times_text, source_text, value_text}
 
 -- THE LINE of each event
-module _ (channels : List Channel) (step ms : ℕ) (event : Event) (line : Line) where
-  pub note_line_lem : (channel key gate : ℕ) (has : Channel) → event ≡ Note channel key gate → has ≡ channel_at channels channel
-      → line ≡ note_line has step ms channel key gate → line ≡ line_of channels step ms event
+module _ (shifts : List ℕ) (step ms : ℕ) (event : Event) (line : Line) where
+  pub note_line_lem : (channel key gate shift : ℕ) → event ≡ Note channel key gate → shift ≡ get_or shifts channel 0
+      → line ≡ note_line shift step ms channel key gate → line ≡ line_of shifts step ms event
   unfolding line_of note_line
-  note_line_lem channel key gate has e is h = h ∙ ap (λ (own : Channel). note_line own step ms channel key gate) is ∙ sym (ap (line_of channels step ms) e)
+  note_line_lem channel key gate shift e is h = h ∙ ap (λ (n : ℕ). note_line n step ms channel key gate) is ∙ sym (ap (line_of shifts step ms) e)
 
   pub wave_line : (channel number gate : ℕ) → event ≡ Wave channel number gate → line ≡ voiced_line step ms channel 2 number gate
-      → line ≡ line_of channels step ms event
+      → line ≡ line_of shifts step ms event
   unfolding line_of voiced_line
-  wave_line channel number gate e h = h ∙ sym (ap (line_of channels step ms) e)
+  wave_line channel number gate e h = h ∙ sym (ap (line_of shifts step ms) e)
 
   pub control_line : (kind channel value long number : ℕ) → event ≡ Control kind channel value → long ≡ long_kind_of kind → number ≡ long_value_of kind value
-      → line ≡ voiced_line step ms channel long number 0 → line ≡ line_of channels step ms event
+      → line ≡ voiced_line step ms channel long number 0 → line ≡ line_of shifts step ms event
   unfolding line_of voiced_line
   control_line kind channel value long number e p q h =
-      h ∙ ap₂ (λ (n v : ℕ). voiced_line step ms channel n v 0) p q ∙ sym (ap (line_of channels step ms) e)
+      h ∙ ap₂ (λ (n v : ℕ). voiced_line step ms channel n v 0) p q ∙ sym (ap (line_of shifts step ms) e)
 
-  pub exclusive_line : (place size : ℕ) → event ≡ Exclusive place size → line ≡ unvoiced_line step ms 14 size → line ≡ line_of channels step ms event
+  pub exclusive_line : (place size : ℕ) → event ≡ Exclusive place size → line ≡ unvoiced_line step ms 14 size → line ≡ line_of shifts step ms event
   unfolding line_of unvoiced_line
-  exclusive_line place size e h = h ∙ sym (ap (line_of channels step ms) e)
+  exclusive_line place size e h = h ∙ sym (ap (line_of shifts step ms) e)
 
-  pub nop_line : event ≡ Nop → line ≡ unvoiced_line step ms 0 0 → line ≡ line_of channels step ms event
+  pub nop_line : event ≡ Nop → line ≡ unvoiced_line step ms 0 0 → line ≡ line_of shifts step ms event
   unfolding line_of unvoiced_line
-  nop_line e h = h ∙ sym (ap (line_of channels step ms) e)
+  nop_line e h = h ∙ sym (ap (line_of shifts step ms) e)
 
 pub ruleset printed = (note_line_lem, wave_line, control_line, exclusive_line, nop_line)
+
+-- THE SHIFTS after each event
+module _ (shifts : List ℕ) (event : Event) where
+  module _ (kind channel value : ℕ) (e : event ≡ Control kind channel value) where
+    pub shift-set : (later : List ℕ) → kind ≡ 5 → later ≡ set shifts channel value → later ≡ shiftsAfter shifts event
+    unfolding shiftsAfter if◌then◌else◌
+    shift-set later five h = h ∙ sym (ap (shiftsAfter shifts) e ∙ simp eq-eqb)
+
+    pub shift_kept : (kind ≡ 5 → ⊥) → shifts ≡ shiftsAfter shifts event
+    unfolding shiftsAfter if◌then◌else◌
+    shift_kept other = sym (ap (shiftsAfter shifts) e ∙ simp ne_eqb)
+
+  pub nop-kept : event ≡ Nop → shifts ≡ shiftsAfter shifts event
+  unfolding shiftsAfter
+  nop-kept e = sym (ap (shiftsAfter shifts) e)
+
+  pub note-kept : (channel key gate : ℕ) → event ≡ Note channel key gate → shifts ≡ shiftsAfter shifts event
+  unfolding shiftsAfter
+  note-kept channel key gate e = sym (ap (shiftsAfter shifts) e)
+
+  pub wave-kept : (channel number gate : ℕ) → event ≡ Wave channel number gate → shifts ≡ shiftsAfter shifts event
+  unfolding shiftsAfter
+  wave-kept channel number gate e = sym (ap (shiftsAfter shifts) e)
+
+  pub exclusive-kept : (place size : ℕ) → event ≡ Exclusive place size → shifts ≡ shiftsAfter shifts event
+  unfolding shiftsAfter
+  exclusive-kept place size e = sym (ap (shiftsAfter shifts) e)
+
+pub ruleset shifting = (shift-set, shift_kept, nop-kept, note-kept, wave-kept, exclusive-kept)
 
 -- A LINE IN PARTS
 module _ (line : Printed) where

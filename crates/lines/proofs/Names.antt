@@ -1,14 +1,13 @@
--- The names of kinds, channels and values in lent memory.
+-- The names of kinds and channels in lent memory.
 use Prim.Native.Nat.{ℕ, ◌+◌}
 use mathlib.Core.Bool.{Bool, true, false}
 use mathlib.Core.List.{List, [], ◌∷◌}
 use mathlib.Core.Path.{◌≡◌, sym, ◌∙◌, ap}
 use lib.ListN.{length}
 use lib.Seq.{sets}
-use lib.IntN.{pos, ◌-ℤ◌}
 use Rattle.model.specs.Words.{if◌then◌else◌}
-use Rattle.model.specs.ListingText.{bytes, decimal, signed, kind_name, channel_name, value_name, space}
-use Rattle.lines.specs.Fields.{closed, channel_said, value_said}
+use Rattle.model.specs.ListingText.{bytes, decimal, kind_name, channel_name, space}
+use Rattle.lines.specs.Fields.{closed, channel_said}
 use Rattle.lines.proofs.Numbers.{nothing_next, nothing_written}
 
 -- the name of a kind that is known
@@ -26,33 +25,28 @@ pub ruleset names = (name_next, name_written)
 
 pub ruleset nameless = (nothing_next, nothing_written)
 
--- a field whose text is another's
-pub field_next : (one two : List ℕ) (at r : ℕ) → one ≡ two → r ≡ at + length one → r ≡ at + length two
-field_next one two at r same e = e ∙ ap (λ (field : List ℕ). at + length field) same
-
-pub field_written : (one two l m : List ℕ) (at : ℕ) → one ≡ two → m ≡ sets l at one → m ≡ sets l at two
-field_written one two l m at same e = e ∙ ap (sets l at) same
-
 -- the field of a channel
-pub channel_voiced : (voiced : Bool) (channel : ℕ) → voiced ≡ true → closed (decimal channel) space ≡ closed (channel_name (channel_said voiced channel)) space
-unfolding channel_said channel_name if◌then◌else◌
-channel_voiced voiced channel is = rw is
+module _ (voiced : Bool) (channel at r : ℕ) (l m : List ℕ) where
+  module _ (is : voiced ≡ true) where
+    channel_voiced : channel_name (channel_said voiced channel) ≡ decimal channel
+    unfolding channel_said channel_name if◌then◌else◌
+    channel_voiced = rw is
 
-pub channel_unvoiced : (voiced : Bool) (channel : ℕ) → voiced ≡ false → 0x2D ∷ 0x20 ∷ [] ≡ closed (channel_name (channel_said voiced channel)) space
-unfolding closed channel_said channel_name bytes if◌then◌else◌
-channel_unvoiced voiced channel is = rw is
+    pub voiced-next : r ≡ at + length (closed (decimal channel) space) → r ≡ at + length (closed (channel_name (channel_said voiced channel)) space)
+    voiced-next e = e ∙ ap (λ (field : List ℕ). at + length (closed field space)) (sym channel_voiced)
 
-pub ruleset channels = (field_next, field_written, channel_voiced, channel_unvoiced)
+    pub voiced-written : m ≡ sets l at (closed (decimal channel) space) → m ≡ sets l at (closed (channel_name (channel_said voiced channel)) space)
+    voiced-written e = e ∙ ap (λ (field : List ℕ). sets l at (closed field space)) (sym channel_voiced)
 
--- the field of a value
-pub value_drum : (percussion : Bool) (up down : ℕ) → percussion ≡ true
-    → 0x64 ∷ 0x72 ∷ 0x75 ∷ 0x6D ∷ 0x20 ∷ [] ≡ closed (value_name (value_said percussion up down)) space
-unfolding closed value_said value_name bytes if◌then◌else◌
-value_drum percussion up down is = rw is
+  module _ (is : voiced ≡ false) where
+    channel_unvoiced : closed (channel_name (channel_said voiced channel)) space ≡ 0x2D ∷ 0x20 ∷ []
+    unfolding closed channel_said channel_name bytes if◌then◌else◌
+    channel_unvoiced = rw is
 
-pub value_number : (percussion : Bool) (up down : ℕ) → percussion ≡ false
-    → closed (signed (pos up -ℤ pos down)) space ≡ closed (value_name (value_said percussion up down)) space
-unfolding value_said value_name if◌then◌else◌
-value_number percussion up down is = rw is
+    pub unvoiced-next : r ≡ at + 2 → r ≡ at + length (closed (channel_name (channel_said voiced channel)) space)
+    unvoiced-next e = e ∙ ap (λ (field : List ℕ). at + length field) (sym channel_unvoiced)
 
-pub ruleset values = (field_next, field_written, value_drum, value_number)
+    pub unvoiced-written : m ≡ sets l at (0x2D ∷ 0x20 ∷ []) → m ≡ sets l at (closed (channel_name (channel_said voiced channel)) space)
+    unvoiced-written e = e ∙ ap (sets l at) (sym channel_unvoiced)
+
+pub ruleset channels = (voiced-next, voiced-written, unvoiced-next, unvoiced-written)

@@ -10,11 +10,9 @@ use native.Mathlib.Nat.{mul-le-mul_left, sub-zero}
 use native.Mathlib.Omega.{arith}
 use Rattle.model.specs.Bytes.{◌!◌}
 use Rattle.model.specs.Writing.{event_in}
-use Rattle.model.specs.Channels.{channels_at_first, channels_after}
-use Rattle.model.specs.Listing.{Line, line_of, lines_of}
+use Rattle.model.specs.Listing.{Line, shiftsAfter, line_of, lines_of}
 use Rattle.model.specs.ListingText.{bytes, decimal, fields, line_text, lines_text, listing_text}
 use Rattle.model.specs.Words.{Checked.refused}
-use Rattle.model.specs.declared.Channel.{Channel}
 use Rattle.model.specs.declared.Event.{Event}
 use Rattle.lines.specs.declared.line.Printed.{Printed}
 use Rattle.lines.specs.Fields.{closed, said, messages_in, rows_text, pair_text, tune_text, Early}
@@ -27,46 +25,46 @@ milliseconds_fit step milliseconds early low =
     record { fits = omega arith }
 
 -- WHAT IS LEFT to be written, of so many rows from the heads of two tables on
-abbrev text_of : ℕ → List Channel → ℕ → List ℕ → List ℕ → List ℕ
-text_of base channels count steps words = lines_text (lines_of base channels (messages_in count steps words))
+abbrev text_of : ℕ → List ℕ → ℕ → List ℕ → List ℕ → List ℕ
+text_of base shifts count steps words = lines_text (lines_of base shifts (messages_in count steps words))
 
-first_line : (base : ℕ) (channels : List Channel) (count step word : ℕ) (steps words : List ℕ)
-    → text_of base channels (suc count) (step ∷ steps) (word ∷ words)
-    ≡ line_text (line_of channels step (step * base) (event_in word)) ++ text_of base (channels_after channels (event_in word)) count steps words
+first_line : (base : ℕ) (shifts : List ℕ) (count step word : ℕ) (steps words : List ℕ)
+    → text_of base shifts (suc count) (step ∷ steps) (word ∷ words)
+    ≡ line_text (line_of shifts step (step * base) (event_in word)) ++ text_of base (shiftsAfter shifts (event_in word)) count steps words
 unfolding lines_text lines_of messages_in
-first_line base channels count step word steps words = refl
+first_line base shifts count step word steps words = refl
 
-no_lines : (base : ℕ) (channels : List Channel) (count : ℕ) (steps words : List ℕ) → count ≡ 0 → text_of base channels count steps words ≡ []
+no_lines : (base : ℕ) (shifts : List ℕ) (count : ℕ) (steps words : List ℕ) → count ≡ 0 → text_of base shifts count steps words ≡ []
 unfolding lines_text lines_of messages_in
-no_lines base channels count steps words e = rw e
+no_lines base shifts count steps words e = rw e
 
-pub record Rowing (l : List ℕ) (at : ℕ) (steps words : List ℕ) (count base : ℕ) (out : List ℕ) (channels : List Channel) (place i : ℕ) : Type 0 where
+pub record Rowing (l : List ℕ) (at : ℕ) (steps words : List ℕ) (count base : ℕ) (out shifts : List ℕ) (place i : ℕ) : Type 0 where
   pub within : i ≤ count
   pub same : length out ≡ length l
   pub near : place ≤ at + 118 * i
-  pub size : place + length (text_of base channels (count - i) (drop i steps) (drop i words)) ≡ at + length (rows_text base count steps words)
-  pub whole : sets out place (text_of base channels (count - i) (drop i steps) (drop i words)) ≡ sets l at (rows_text base count steps words)
+  pub size : place + length (text_of base shifts (count - i) (drop i steps) (drop i words)) ≡ at + length (rows_text base count steps words)
+  pub whole : sets out place (text_of base shifts (count - i) (drop i steps) (drop i words)) ≡ sets l at (rows_text base count steps words)
 
 module _ (l : List ℕ) (at : ℕ) (steps words : List ℕ) (count base : ℕ) where
-  pub rows_start : (channels : List Channel) → channels ≡ channels_at_first → Rowing l at steps words count base l channels at 0
+  pub rows_start : Rowing l at steps words count base l (0 ∷ 0 ∷ 0 ∷ 0 ∷ []) at 0
   unfolding rows_text
-  rows_start channels first =
+  rows_start =
       let all = sub-zero count in
       record {
         within = omega arith;
         same = refl;
         near = omega arith;
-        size = ap₂ (λ (own : List Channel) (n : ℕ). at + length (text_of base own n steps words)) first all;
-        whole = ap₂ (λ (own : List Channel) (n : ℕ). sets l at (text_of base own n steps words)) first all;
+        size = ap (λ (n : ℕ). at + length (text_of base (0 ∷ 0 ∷ 0 ∷ 0 ∷ []) n steps words)) all;
+        whole = ap (λ (n : ℕ). sets l at (text_of base (0 ∷ 0 ∷ 0 ∷ 0 ∷ []) n steps words)) all;
       }
 
-  module _ (out : List ℕ) (channels : List Channel) (place i : ℕ) (r : Rowing l at steps words count base out channels place i) where
+  module _ (out shifts : List ℕ) (place i : ℕ) (r : Rowing l at steps words count base out shifts place i) where
     pub rows_room : at + 118 * count ≤ length l → i < count → place + 118 ≤ length out
     rows_room room h = omega (arith, r.near, r.same)
 
     pub rows-done : count ≤ i → place ≡ at + length (rows_text base count steps words)
     rows-done past =
-        let none_left = no_lines base channels (count - i) (drop i steps) (drop i words) (omega arith) in
+        let none_left = no_lines base shifts (count - i) (drop i steps) (drop i words) (omega arith) in
         omega (arith, r.size, ap length none_left)
 
     pub rows-ended : count ≤ i → place ≤ at + 118 * count
@@ -74,7 +72,7 @@ module _ (l : List ℕ) (at : ℕ) (steps words : List ℕ) (count base : ℕ) w
 
     pub rows_written : count ≤ i → out ≡ sets l at (rows_text base count steps words)
     rows_written past =
-        let none_left = no_lines base channels (count - i) (drop i steps) (drop i words) (omega arith) in
+        let none_left = no_lines base shifts (count - i) (drop i steps) (drop i words) (omega arith) in
         ap (sets out place) (sym none_left) ∙ r.whole
 
     pub rows-kept : length out ≡ length l
@@ -92,31 +90,31 @@ module _ (l : List ℕ) (at : ℕ) (steps words : List ℕ) (count base : ℕ) w
 
       module _ (few : count ≤ length steps) (many : count ≤ length words) where
         abbrev line : Line
-        line = line_of channels (steps ! i) (steps ! i * base) (event_in (words ! i))
+        line = line_of shifts (steps ! i) (steps ! i * base) (event_in (words ! i))
 
         abbrev later : List ℕ
-        later = text_of base (channels_after channels (event_in (words ! i))) (count - (i + 1)) (drop (i + 1) steps) (drop (i + 1) words)
+        later = text_of base (shiftsAfter shifts (event_in (words ! i))) (count - (i + 1)) (drop (i + 1) steps) (drop (i + 1) words)
 
-        ahead : text_of base channels (count - i) (drop i steps) (drop i words) ≡ line_text line ++ later
+        ahead : text_of base shifts (count - i) (drop i steps) (drop i words) ≡ line_text line ++ later
         ahead =
             let left : count - i ≡ suc (count - (i + 1)) = omega arith in
             let next : suc i ≡ i + 1 = omega arith in
-            ap₂ (λ (n : ℕ) (s : List ℕ). text_of base channels n s (drop i words)) left (drop-cons steps i 0 (omega arith))
-            ∙ ap (λ (w : List ℕ). text_of base channels (suc (count - (i + 1))) (steps ! i ∷ drop (suc i) steps) w) (drop-cons words i 0 (omega arith))
-            ∙ first_line base channels (count - (i + 1)) (steps ! i) (words ! i) (drop (suc i) steps) (drop (suc i) words)
-            ∙ ap (λ (n : ℕ). line_text line ++ text_of base (channels_after channels (event_in (words ! i))) (count - (i + 1)) (drop n steps) (drop n words)) next
+            ap₂ (λ (n : ℕ) (s : List ℕ). text_of base shifts n s (drop i words)) left (drop-cons steps i 0 (omega arith))
+            ∙ ap (λ (w : List ℕ). text_of base shifts (suc (count - (i + 1))) (steps ! i ∷ drop (suc i) steps) w) (drop-cons words i 0 (omega arith))
+            ∙ first_line base shifts (count - (i + 1)) (steps ! i) (words ! i) (drop (suc i) steps) (drop (suc i) words)
+            ∙ ap (λ (n : ℕ). line_text line ++ text_of base (shiftsAfter shifts (event_in (words ! i))) (count - (i + 1)) (drop n steps) (drop n words)) next
 
         module _ (event : Event) (ms : ℕ) (printed : Printed) (is : event ≡ event_in (words ! i)) (times : ms ≡ steps ! i * base)
-            (prints : said printed ≡ line_of channels (steps ! i) ms event) where
+            (prints : said printed ≡ line_of shifts (steps ! i) ms event) where
           line-is : said printed ≡ line
-          line-is = prints ∙ ap₂ (λ (n : ℕ) (e : Event). line_of channels (steps ! i) n e) times is
+          line-is = prints ∙ ap₂ (λ (n : ℕ) (e : Event). line_of shifts (steps ! i) n e) times is
 
-          pub rows_next : (m : List ℕ) (channels' : List Channel) (next : ℕ) → next ≡ place + length (line_text (said printed)) → next ≤ place + 118
-              → m ≡ sets out place (line_text (said printed)) → length m ≡ length out → channels' ≡ channels_after channels event
-              → Rowing l at steps words count base m channels' next (i + 1)
-          rows_next m channels' next after near written kept stepped =
+          pub rows_next : (m shifts' : List ℕ) (next : ℕ) → next ≡ place + length (line_text (said printed)) → next ≤ place + 118
+              → m ≡ sets out place (line_text (said printed)) → length m ≡ length out → shifts' ≡ shiftsAfter shifts event
+              → Rowing l at steps words count base m shifts' next (i + 1)
+          rows_next m shifts' next after near written kept shifted =
               let there : next ≡ place + length (line_text line) = after ∙ ap (λ (x : Line). place + length (line_text x)) line-is in
-              let now : channels' ≡ channels_after channels (event_in (words ! i)) = stepped ∙ ap (channels_after channels) is in
+              let now : shifts' ≡ shiftsAfter shifts (event_in (words ! i)) = shifted ∙ ap (shiftsAfter shifts) is in
               let both = ap length ahead in
               record {
                 within = omega arith;

@@ -2,13 +2,12 @@
 use Rattle.std.specs.Prelude.{ℕ, zero, suc, ◌+◌, ◌-◌, ◌*◌, ◌/◌, ◌%◌, ◌<◌, ◌≤◌, Bool, List, [], ◌∷◌, ◌++◌, pos, ◌-ℤ◌}
 use Rattle.std.proofs.Math.Option.{Option, none, some}
 use Rattle.model.specs.Words.{if◌then◌else◌, ◌≤?◌, Checked, Checked.fine, Checked.refused}
+use Rattle.model.specs.Pitch.{semitones}
 use Rattle.model.specs.Bytes.{◌!◌}
-use Rattle.model.specs.Channels.{channels_at_first}
-use Rattle.model.specs.Listing.{Value, Value.numeral, Value.drum, Line, Listing, note_value, lines_of}
-use Rattle.model.specs.ListingText.{bytes, space, newline, decimal, kind_name, channel_name, value_name, lines_text}
+use Rattle.model.specs.Listing.{Line, Listing, lines_of}
+use Rattle.model.specs.ListingText.{bytes, space, newline, decimal, signed, kind_name, channel_name, lines_text}
 use Rattle.model.specs.Play.{At, Tune}
 use Rattle.model.specs.Writing.{event_in}
-use Rattle.model.specs.declared.Channel.{Channel}
 use Rattle.model.specs.declared.Event.{Event}
 use Rattle.lines.specs.declared.line.Printed.{Printed}
 
@@ -20,9 +19,6 @@ closed field byte = field ++ byte ∷ []
 unfoldable pub channel_said : Bool → ℕ → Option ℕ
 channel_said voiced channel = if voiced then some channel else none
 
-unfoldable pub value_said : Bool → ℕ → ℕ → Value
-value_said percussion up down = if percussion then drum else numeral (pos up -ℤ pos down)
-
 unfoldable pub said : Printed → Line
 said printed =
     record {
@@ -30,7 +26,7 @@ said printed =
       ms = printed.ms;
       channel = channel_said printed.voiced printed.channel;
       kind = printed.kind;
-      value = value_said printed.percussion printed.up printed.down;
+      value = pos printed.up -ℤ pos printed.down;
       gate = printed.gate;
     }
 
@@ -44,17 +40,24 @@ semitones_up key shift = 12 * (key / 16) + key % 16 + 12 * octaves_up shift
 unfoldable pub semitones_down : ℕ → ℕ
 semitones_down shift = 33 + 12 * (shift - 0x80)
 
--- the lines of a note under what its channel has, of what else has a channel, and of what has none
-unfoldable pub note_line : Channel → ℕ → ℕ → ℕ → ℕ → ℕ → Line
-note_line has step ms channel key gate =
-    record { step = step; ms = ms; channel = some channel; kind = 1; value = note_value has key; gate = gate }
+-- the lines of a note under a shift, of what else has a channel, and of what has none
+unfoldable pub note_line : ℕ → ℕ → ℕ → ℕ → ℕ → ℕ → Line
+note_line shift step ms channel key gate =
+    record {
+      step = step;
+      ms = ms;
+      channel = some channel;
+      kind = 1;
+      value = semitones (key / 16) (key % 16) shift;
+      gate = gate;
+    }
 
 unfoldable pub voiced_line : ℕ → ℕ → ℕ → ℕ → ℕ → ℕ → Line
 voiced_line step ms channel kind value gate =
-    record { step = step; ms = ms; channel = some channel; kind = kind; value = numeral (pos value); gate = gate }
+    record { step = step; ms = ms; channel = some channel; kind = kind; value = pos value; gate = gate }
 
 unfoldable pub unvoiced_line : ℕ → ℕ → ℕ → ℕ → Line
-unvoiced_line step ms kind value = record { step = step; ms = ms; channel = none; kind = kind; value = numeral (pos value); gate = 0 }
+unvoiced_line step ms kind value = record { step = step; ms = ms; channel = none; kind = kind; value = pos value; gate = 0 }
 
 -- a line in three parts: its times, its channel and kind, its value and gate
 unfoldable pub times_text : ℕ → ℕ → List ℕ
@@ -66,7 +69,7 @@ source_text printed =
 
 unfoldable pub value_text : Printed → List ℕ
 value_text printed =
-    closed (value_name (value_said printed.percussion printed.up printed.down)) space ++ closed (decimal printed.gate) newline
+    closed (signed (pos printed.up -ℤ pos printed.down)) space ++ closed (decimal printed.gate) newline
 
 -- the messages that the first rows of two tables say
 unfoldable pub messages_in : ℕ → List ℕ → List ℕ → List (At Event)
@@ -78,7 +81,7 @@ messages_in (suc count) (step ∷ steps) (word ∷ words) =
 
 -- the lines of the first rows, where a step lasts so many milliseconds
 unfoldable pub rows_text : ℕ → ℕ → List ℕ → List ℕ → List ℕ
-rows_text base count steps words = lines_text (lines_of base channels_at_first (messages_in count steps words))
+rows_text base count steps words = lines_text (lines_of base (0 ∷ 0 ∷ 0 ∷ 0 ∷ []) (messages_in count steps words))
 
 -- a word and two numbers on one line
 unfoldable pub pair_text : List ℕ → ℕ → ℕ → List ℕ
@@ -96,7 +99,7 @@ Early count steps = (i : ℕ) → i < count → steps ! i ≤ 368934881474191032
 -- the listing of a tune, where a step lasts so many milliseconds
 unfoldable pub tune_listed : ℕ → Tune Event → Listing
 tune_listed base tune =
-    record { lines = lines_of base channels_at_first tune.messages; end = tune.end; end_ms = tune.end * base }
+    record { lines = lines_of base (0 ∷ 0 ∷ 0 ∷ 0 ∷ []) tune.messages; end = tune.end; end_ms = tune.end * base }
 
 unfoldable pub play_listed : ℕ → Checked (Tune Event) → Checked Listing
 play_listed base (fine tune) = fine (tune_listed base tune)

@@ -6,7 +6,7 @@ ghost use Rattle.lines.specs.Tops.{top_met};
 use super::top::top_at;
 use model::ReadTop;
 
-#[derive(Drop)]
+#[derive(Clone, Copy)]
 pub struct Head<'a> {
     pub body: &'a [u8],
     pub at: usize,

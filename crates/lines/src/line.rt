@@ -1,26 +1,77 @@
-// One line: what a message prints, under what the channels have, and its text.
-ghost use Rattle.std.specs.Prelude.{◌≡◌, ◌+◌, ◌≤◌, length};
+// One line: what a message prints, under the shifts that are in force, and its text.
+ghost use Rattle.std.specs.Prelude.{◌≡◌, ◌+◌, ◌≤◌, length, get_or, set};
 ghost use Rattle.std.proofs.lemmas.List.Edits.{sets};
-ghost use Rattle.model.specs.Listing.{long_kind_of, long_value_of, line_of};
-ghost use Rattle.model.specs.ListingText.{channel_name, value_name, space, line_text};
-ghost use Rattle.lines.specs.Fields.{closed, channel_said, value_said, said, octaves_up, semitones_up, semitones_down, note_line, voiced_line, unvoiced_line, times_text, source_text, value_text};
+ghost use Rattle.model.specs.Listing.{shiftsAfter, long_kind_of, long_value_of, line_of};
+ghost use Rattle.model.specs.ListingText.{channel_name, space, line_text};
+ghost use Rattle.lines.specs.Fields.{closed, channel_said, said, octaves_up, semitones_up, semitones_down, note_line, voiced_line, unvoiced_line, times_text, source_text, value_text};
 
 use super::name::write_kind;
 use super::number::{write_difference, write_number, write_text};
-use model::{Channel, Event};
+use model::Event;
 
-// The numbers of a line. Its channel counts only where it is voiced; its value is a difference, but for percussion.
-#[derive(Drop)]
+// The numbers of a line. Its channel counts only where it is voiced; its value is a difference.
+#[derive(Clone, Copy)]
 pub struct Printed {
     pub step: u64,
     pub ms: u64,
     pub voiced: bool,
     pub channel: u8,
     pub kind: u8,
-    pub percussion: bool,
     pub up: u64,
     pub down: u64,
     pub gate: u32,
+}
+
+fn shift_of(shifts: [u8; 4], channel: u8) -> u8
+    ensures { result ≡ get_or shifts channel 0 }
+{
+    let at = channel as usize;
+    if 4 <= at {
+        return 0;
+    }
+    shifts[at]
+}
+
+fn shifted(shifts: [u8; 4], channel: u8, value: u8) -> [u8; 4]
+    ensures { result ≡ set shifts channel value }
+{
+    let mut next = shifts;
+    let at = channel as usize;
+    if 4 <= at {
+        return next;
+    }
+    next[at] = value;
+    next
+}
+
+// The shifts in force after a message.
+pub fn shifts_after(shifts: [u8; 4], event: Event) -> [u8; 4]
+    ensures { result ≡ shiftsAfter shifts event }
+{
+    match event {
+        Event::Control {
+            kind,
+            channel,
+            value,
+        } => {
+            if kind == 5 {
+                return shifted(shifts, channel, value);
+            }
+            shifts
+        }
+        Event::Nop => shifts,
+        Event::Note {
+            channel: _,
+            key: _,
+            gate: _,
+        } => shifts,
+        Event::Wave {
+            channel: _,
+            number: _,
+            gate: _,
+        } => shifts,
+        Event::Exclusive { place: _, size: _ } => shifts,
+    }
 }
 
 fn long_kind(kind: u8) -> u8
@@ -73,9 +124,8 @@ fn semitones_down(shift: u8) -> u64
     33 + 12 * (shift - 0x80) as u64
 }
 
-// A note under what its channel has.
-fn print_note(has: Channel, step: u64, ms: u64, channel: u8, key: u8, gate: u32) -> Printed
-    ensures { said result ≡ note_line has step ms channel key gate }
+fn print_note(shift: u8, step: u64, ms: u64, channel: u8, key: u8, gate: u32) -> Printed
+    ensures { said result ≡ note_line shift step ms channel key gate }
 {
     Printed {
         step,
@@ -83,9 +133,8 @@ fn print_note(has: Channel, step: u64, ms: u64, channel: u8, key: u8, gate: u32)
         voiced: true,
         channel,
         kind: 1,
-        percussion: pitch::is_percussion(has.bank_in_force),
-        up: semitones_up(key, has.shift),
-        down: semitones_down(has.shift),
+        up: semitones_up(key, shift),
+        down: semitones_down(shift),
         gate,
     }
 }
@@ -100,7 +149,6 @@ fn print_voiced(step: u64, ms: u64, channel: u8, kind: u8, value: u8, gate: u32)
         voiced: true,
         channel,
         kind,
-        percussion: false,
         up: value as u64,
         down: 0,
         gate,
@@ -116,20 +164,19 @@ fn print_unvoiced(step: u64, ms: u64, kind: u8, value: u8) -> Printed
         voiced: false,
         channel: 0,
         kind,
-        percussion: false,
         up: value as u64,
         down: 0,
         gate: 0,
     }
 }
 
-pub fn print_event(channels: [Channel; 4], step: u64, ms: u64, event: Event) -> Printed
-    ensures { said result ≡ line_of channels step ms event }
+pub fn print_event(shifts: [u8; 4], step: u64, ms: u64, event: Event) -> Printed
+    ensures { said result ≡ line_of shifts step ms event }
 {
     match event {
         Event::Note { channel, key, gate } => {
-            let has = pitch::channel_at(channels, channel);
-            print_note(has, step, ms, channel, key, gate)
+            let shift = shift_of(shifts, channel);
+            print_note(shift, step, ms, channel, key, gate)
         }
         Event::Wave {
             channel,
@@ -184,24 +231,13 @@ fn write_source(out: &mut [u8], at: usize, line: Printed) -> usize
     write_kind(out, kind, line.kind)
 }
 
-fn write_number_or_drum(out: &mut [u8], at: usize, percussion: bool, up: u64, down: u64) -> usize
-    requires { at + 22 ≤ length out.old }
-    ensures value { (result ≡ at + length (closed (value_name (value_said percussion up down)) space)) × (result ≤ at + 22) }
-    ensures out_after { out.new ≡ sets out.old at (closed (value_name (value_said percussion up down)) space) }
-{
-    if percussion {
-        return write_text(out, at, b"drum ");
-    }
-    write_difference(out, at, up, down, b' ')
-}
-
 // A line's value and gate.
 fn write_value(out: &mut [u8], at: usize, line: Printed) -> usize
     requires { at + 43 ≤ length out.old }
     ensures value { (result ≡ at + length (value_text line)) × (result ≤ at + 43) }
     ensures out_after { out.new ≡ sets out.old at (value_text line) }
 {
-    let gate = write_number_or_drum(out, at, line.percussion, line.up, line.down);
+    let gate = write_difference(out, at, line.up, line.down, b' ');
     write_number(out, gate, line.gate as u64, b'\n')
 }
 

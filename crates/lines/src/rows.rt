@@ -5,7 +5,7 @@ ghost use Rattle.model.specs.Words.{Checked.refused};
 ghost use Rattle.model.specs.ListingText.{listing_text};
 ghost use Rattle.lines.specs.Fields.{pair_text, rows_text, tune_text, Early};
 
-use super::line::{print_event, write_line};
+use super::line::{print_event, shifts_after, write_line};
 use super::number::{write_number, write_text};
 
 // A step of a track whose time base has so many milliseconds.
@@ -16,7 +16,7 @@ fn in_milliseconds(step: u64, milliseconds: u32) -> u64
     step * milliseconds as u64
 }
 
-// The lines of so many rows, each under what the rows before it have left on the channels.
+// The lines of so many rows. The shifts are those of the four channels, all 0 before any.
 fn write_rows(
     out: &mut [u8],
     at: usize,
@@ -32,16 +32,16 @@ fn write_rows(
     ensures value { (result ≡ at + length (rows_text milliseconds count steps.now words.now)) × (result ≤ at + 118 * count) }
     ensures out_after { out.new ≡ sets out.old at (rows_text milliseconds count steps.now words.now) }
 {
-    let mut channels = pitch::channels_at_first();
+    let mut shifts = [0u8; 4];
     let mut place = at;
     let mut i: usize = 0;
     while i < count {
         let step = steps[i];
         let event = writing::event_in(words[i]);
-        let line = print_event(channels, step, in_milliseconds(step, milliseconds), event);
+        let line = print_event(shifts, step, in_milliseconds(step, milliseconds), event);
         place = write_line(out, place, line);
-        let later = pitch::channels_after(channels, event);
-        channels = later;
+        let later = shifts_after(shifts, event);
+        shifts = later;
         i += 1;
     }
     place

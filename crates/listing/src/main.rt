@@ -1,5 +1,7 @@
 // The listing program: a file from standard input, its listing on standard output. What it prints is the text of `lines::list`, whose room
 // is large enough for any.
+#![tactic(auto)]
+
 use model::Listed;
 
 // One byte more than a file may have shows one that is too long.

@@ -1,14 +1,13 @@
 -- The semitones of a note, as the difference of two counts.
-use Prim.Native.Nat.{ℕ, zero, suc, ◌+◌, ◌-◌, ◌*◌, ◌/◌, ◌%◌, ◌<◌, ◌≤◌}
-use mathlib.Core.Bool.{true, false}
+use Prim.Native.Nat.{ℕ, zero, suc, ◌+◌, ◌-◌, ◌*◌, ◌<◌, ◌≤◌}
+use mathlib.Core.Bool.{true}
 use mathlib.Core.Path.{◌≡◌, refl, sym, ap, ap₂, ◌∙◌}
 use native.Mathlib.Omega.{arith}
 use lib.IntN.{ℤ, pos, negsuc, neg_ℤ, ◌+ℤ◌, ◌-ℤ◌, ◌*ℤ◌, +ℤ_assoc, +ℤ_comm, neg_ℤ-+ℤ}
 use borrow.Author.Tests.{le-ltb, lt-ltb, le-leb, lt-leb, leb-true}
-use Rattle.model.specs.Words.{if◌then◌else◌, ◌and◌, ◌or◌, ◌≤?◌}
-use Rattle.model.specs.Event.{is_note, is_shift}
-use Rattle.model.specs.Pitch.{shift_of, semitones, is_percussion, pitch_of}
-use Rattle.model.specs.declared.Pitch.TheVariants.{Semitones}
+use Rattle.model.specs.Words.{◌and◌, ◌or◌, ◌≤?◌}
+use Rattle.model.specs.Event.{is_shift}
+use Rattle.model.specs.Pitch.{shift_of, semitones}
 use Rattle.model.proofs.Tests.{if_true, if_false, and_left, and_right}
 
 swap : (a b c : ℤ) → a +ℤ b +ℤ c ≡ a +ℤ c +ℤ b
@@ -71,9 +70,3 @@ unfolding is_shift ◌or◌
 down shift e h =
     let both : ((0x81 ≤? shift) and (shift ≤? 0x84)) ≡ true = rw (lt-leb shift 4 h) at e in
     (leb-true 0x81 shift (and_left _ _ both), leb-true shift 0x84 (and_right _ _ both))
-
--- what is a note under a shift, and no percussion, has its pitch
-pub has_pitch : (byte shift bank : ℕ) (z : ℤ) → is_note (byte % 16) ≡ true → is_shift shift ≡ true → is_percussion bank ≡ false
-    → z ≡ semitones (byte / 16 % 4) (byte % 16) shift → Semitones z ≡ pitch_of byte shift bank
-unfolding pitch_of if◌then◌else◌
-has_pitch byte shift bank z is up none e = rw (is, up, none) (ap Semitones e)

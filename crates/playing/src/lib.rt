@@ -1,5 +1,7 @@
 // Plays a track: the bodies of the track that a row names (16), its section or its order list (17), and its messages at their steps in
 // two lent tables (15).
+#![tactic(auto)]
+
 mod bodies;
 mod letters;
 mod operation;

@@ -6,7 +6,7 @@ const LARGEST: u32 = 70000;
 const LARGEST_DESCRIPTION: u32 = 300000;
 
 // The numbers of a case's head, of which so many bytes were there.
-#[derive(Drop)]
+#[derive(Clone, Copy)]
 pub struct Case {
     pub bytes: usize,
     pub operation: u8,

@@ -6,7 +6,7 @@ use super::tables::{add_bytes, add_four, add_numbers};
 const ORDER_LIST: u8 = 3;
 
 // The place after what is laid out, or `CUT`, and how much of each table is filled.
-#[derive(Drop)]
+#[derive(Clone, Copy)]
 pub struct Laid {
     pub at: usize,
     pub numbers: usize,
@@ -14,7 +14,7 @@ pub struct Laid {
 }
 
 // So many things of a description, from a place up to an end.
-#[derive(Drop)]
+#[derive(Clone, Copy)]
 struct Stretch {
     count: u32,
     from: usize,
@@ -22,7 +22,7 @@ struct Stretch {
 }
 
 // The parts of a track: its number and fixed bytes, and what follows them.
-#[derive(Drop)]
+#[derive(Clone, Copy)]
 struct Track {
     fixed: usize,
     entries: Stretch,

@@ -3,6 +3,8 @@
 // number, room, length of the buffer), and the buffer. It answers `r` (read), `p` (play), `f` (flatten), `l` (listing), `t` (pitch), `w` (write a
 // file), `b` (write a body), `m` (items of a track) and `s` (its seek entries). A case that is cut, too large or of an unknown operation, or whose
 // description is cut, ends the run with the line `bad case`.
+#![tactic(auto)]
+
 mod cases;
 mod descriptions;
 mod lending;
@@ -27,19 +29,13 @@ use model::Pitch;
 use places::CUT;
 use text::{flush, put, put_byte, put_pitch, put_refusal};
 
-// The last byte of a number.
-fn low(number: u32) -> u8 {
-    (number % 256) as u8
-}
-
-fn answer_pitch(page: &mut [u8], used: usize, byte: u32, shift: u32, bank: u32) -> usize {
-    match pitch::pitch_of(low(byte), low(shift), low(bank)) {
+fn answer_pitch(page: &mut [u8], used: usize, byte: u32, shift: u32) -> usize {
+    match pitch::pitch_of((byte % 256) as u8, (shift % 256) as u8) {
         Pitch::Semitones { above } => {
             let used = put(page, used, b"pitch ");
             let used = put_pitch(page, used, above);
             put_byte(page, used, b'\n')
         }
-        Pitch::Drum => put(page, used, b"drum\n"),
         Pitch::Refused { number, place } => put_refusal(page, used, number, place),
     }
 }
@@ -93,7 +89,7 @@ fn answer_on_file(
     if case.operation == b'l' {
         return lend_to_list(page, used, case, buffer);
     }
-    let used = answer_pitch(page, used, case.stated, case.row, case.room);
+    let used = answer_pitch(page, used, case.stated, case.row);
     put(page, used, b"-- kept\n")
 }
 
@@ -125,7 +121,7 @@ fn answer(
 }
 
 // How much of the page is used after a turn, and whether that was the last.
-#[derive(Drop)]
+#[derive(Clone, Copy)]
 struct Turn {
     used: usize,
     last: bool,

@@ -1,4 +1,6 @@
 // Reads a file into chunk rows: the frame (2 to 7), each track (8 to 14), the rows, and the operation itself (1, 15).
+#![tactic(auto)]
+
 mod file;
 mod find;
 mod frame;

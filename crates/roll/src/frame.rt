@@ -60,8 +60,7 @@ pub fn layout_of(played: Played, bases: Bases, found: Survey) -> Layout {
     let lowest = lowest_shown(found);
     let rows = rows_shown(found, lowest);
     let row_height = height_of_row(rows);
-    let drums = below(TOP + 8, depth(rows, row_height));
-    let waves = below(drums, lane_depth(found.drums, 30));
+    let waves = below(TOP + 8, depth(rows, row_height));
     let others = below(waves, lane_depth(found.waves, 30));
     let bottom = below(others, lane_depth(found.others, 24));
     Layout {
@@ -69,7 +68,6 @@ pub fn layout_of(played: Played, bases: Bases, found: Survey) -> Layout {
         rows,
         row_height,
         total: milliseconds(played.end, bases.step),
-        drums,
         waves,
         others,
         bottom,
@@ -103,17 +101,8 @@ fn draw_length(page: &mut [u8], used: usize, layout: Layout, played: Played) -> 
     )
 }
 
-fn put_drums(page: &mut [u8], used: usize, drums: u64) -> usize {
-    if drums == 0 {
-        return used;
-    }
-    let used = put(page, used, b", ");
-    put_plural(page, used, drums, b"drum")
-}
-
 fn put_counts(page: &mut [u8], used: usize, found: Survey) -> usize {
     let used = put_plural(page, used, found.notes, b"note");
-    let used = put_drums(page, used, found.drums);
     let used = put(page, used, b", ");
     let used = put_plural(page, used, found.waves, b"wave");
     let used = put(page, used, b", ");
@@ -355,12 +344,6 @@ fn draw_lane_name(page: &mut [u8], used: usize, from: u64, to: u64, name: &[u8])
     put(page, used, b"</text>\n")
 }
 
-fn draw_lane_names(page: &mut [u8], used: usize, layout: Layout) -> usize {
-    let used = draw_lane_name(page, used, layout.drums, layout.waves, b"drums");
-    let used = draw_lane_name(page, used, layout.waves, layout.others, b"waves");
-    draw_lane_name(page, used, layout.others, layout.bottom, b"other")
-}
-
 fn draw_head(page: &mut [u8], used: usize, height: u64) -> usize {
     let used = put(
         page,
@@ -395,5 +378,6 @@ pub fn draw_frame(
     let used = draw_channels(page, used, channels);
     let used = draw_rows(page, used, layout);
     let used = draw_seconds(page, used, layout);
-    draw_lane_names(page, used, layout)
+    let used = draw_lane_name(page, used, layout.waves, layout.others, b"waves");
+    draw_lane_name(page, used, layout.others, layout.bottom, b"other")
 }

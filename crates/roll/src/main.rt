@@ -1,5 +1,7 @@
 // The piano roll: reads a file from standard input and writes a picture of its first readable track, as SVG, to standard output. Time goes
 // across, pitch up; what it shows is what the proved operations answer. A refused file gives a small picture that says the refusal.
+#![tactic(auto)]
+
 mod borders;
 mod endings;
 mod frame;

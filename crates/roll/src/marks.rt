@@ -8,7 +8,7 @@ use super::messages::more;
 use model::{ReadItem, Span, Voice};
 
 // An item as the picture needs it: the place after it, its duration, and what it is.
-#[derive(Drop)]
+#[derive(Clone, Copy)]
 struct Walked {
     pub next: usize,
     pub duration: u64,

@@ -1,7 +1,7 @@
 // The messages of a play, taken apart from their words, and what there is to be shown of them.
-use model::{Channel, Pitch};
+use model::Pitch;
 
-#[derive(Drop)]
+#[derive(Clone, Copy)]
 pub struct Message {
     pub kind: u8,
     pub channel: u8,
@@ -18,33 +18,41 @@ pub fn message_of(word: u32) -> Message {
     }
 }
 
-// Where a message stands in the picture: a note in the row of its pitch, from 0 for the lowest that there is to 143 for the highest; all else in
-// a lane.
-#[derive(Drop)]
-pub enum Lane {
-    Row { row: u64 },
-    Drums,
-    Waves,
-    Others,
+// The last octave shift of each channel.
+#[derive(Clone, Copy)]
+pub struct Shifts {
+    pub of: [u8; 4],
 }
 
-pub fn lane_of(channels: [Channel; 4], message: Message) -> Lane {
-    if message.kind == 2 {
-        return Lane::Waves;
+pub fn no_shifts() -> Shifts {
+    Shifts { of: [0u8; 4] }
+}
+
+pub fn shifts_after(shifts: Shifts, message: Message) -> Shifts {
+    let slot = message.channel as usize;
+    if message.kind != 5 {
+        return shifts;
     }
-    if message.kind != 1 {
-        return Lane::Others;
+    if 4 <= slot {
+        return shifts;
     }
-    let has = pitch::channel_at(channels, message.channel);
-    match pitch::pitch_of(message.value, has.shift, has.bank_in_force) {
-        Pitch::Semitones { above } => Lane::Row {
-            row: row_above(above),
-        },
-        Pitch::Drum => Lane::Drums,
+    let mut next = shifts;
+    next.of[slot] = message.value;
+    next
+}
+
+// The row of a note, from 0 for the lowest pitch that there is to 143 for the highest; 144 where it is none.
+pub fn row_of(shifts: Shifts, message: Message) -> u64 {
+    let slot = message.channel as usize;
+    if 4 <= slot {
+        return 144;
+    }
+    match pitch::pitch_of(message.value, shifts.of[slot]) {
+        Pitch::Semitones { above } => row_above(above),
         Pitch::Refused {
             number: _,
             place: _,
-        } => Lane::Others,
+        } => 144,
     }
 }
 
@@ -59,13 +67,12 @@ fn row_above(above: i32) -> u64 {
     144
 }
 
-// The lowest and the highest row of notes, how many notes with a pitch, drums, waves and other messages there are, and which channels they are of.
-#[derive(Drop)]
+// The lowest and the highest row of notes, how many notes, waves and other messages there are, and which channels they are of.
+#[derive(Clone, Copy)]
 pub struct Survey {
     pub lowest: u64,
     pub highest: u64,
     pub notes: u64,
-    pub drums: u64,
     pub waves: u64,
     pub others: u64,
     pub channels: [bool; 4],
@@ -103,57 +110,41 @@ fn with_channel(survey: Survey, channel: u8) -> Survey {
     next
 }
 
-fn with_note(survey: Survey, row: u64) -> Survey {
+fn with_message(survey: Survey, shifts: Shifts, message: Message) -> Survey {
     let mut next = survey;
-    next.lowest = least(row, next.lowest);
-    next.highest = most(row, next.highest);
-    next.notes = more(next.notes);
+    if message.kind == 1 {
+        let row = row_of(shifts, message);
+        next.lowest = least(row, next.lowest);
+        next.highest = most(row, next.highest);
+        next.notes = more(next.notes);
+        return with_channel(next, message.channel);
+    }
+    if message.kind == 2 {
+        next.waves = more(next.waves);
+        return with_channel(next, message.channel);
+    }
+    next.others = more(next.others);
     next
 }
 
-fn with_message(survey: Survey, lane: Lane, channel: u8) -> Survey {
-    let mut next = survey;
-    match lane {
-        Lane::Row { row } => with_channel(with_note(survey, row), channel),
-        Lane::Drums => {
-            next.drums = more(next.drums);
-            with_channel(next, channel)
-        }
-        Lane::Waves => {
-            next.waves = more(next.waves);
-            with_channel(next, channel)
-        }
-        Lane::Others => {
-            next.others = more(next.others);
-            next
-        }
-    }
-}
-
-fn nothing() -> Survey {
-    Survey {
+pub fn look_over(words: &[u32], count: usize) -> Survey {
+    let mut found = Survey {
         lowest: 144,
         highest: 0,
         notes: 0,
-        drums: 0,
         waves: 0,
         others: 0,
         channels: [false; 4],
-    }
-}
-
-pub fn look_over(words: &[u32], count: usize) -> Survey {
-    let mut found = nothing();
-    let mut channels = pitch::channels_at_first();
+    };
+    let mut shifts = no_shifts();
     let mut i: usize = 0;
     while i < count {
         if words.len() <= i {
             return found;
         }
         let message = message_of(words[i]);
-        found = with_message(found, lane_of(channels, message), message.channel);
-        let stepped = pitch::channels_after(channels, writing::event_in(words[i]));
-        channels = stepped;
+        found = with_message(found, shifts, message);
+        shifts = shifts_after(shifts, message);
         i += 1;
     }
     found

@@ -1,10 +1,9 @@
-// The messages in the picture: a note as long as its gate at its pitch, a drum as a short mark and a wave as long as its gate in their lanes,
-// anything else as a mark in the lane below.
+// The messages in the picture: a note as long as its gate at its pitch, a wave in its lane, anything else as a mark in the lane below.
 use super::frame::later;
-use super::messages::{Lane, Message, lane_of, message_of};
+use super::messages::{Message, message_of, no_shifts, row_of, shifts_after};
 use super::page::{
-    Bases, Layout, across, below, distance, edge, milliseconds, put_colour, put_note_name,
-    put_pair, put_seconds, tenths,
+    Bases, Layout, across, distance, edge, milliseconds, put_colour, put_note_name, put_pair,
+    put_seconds, tenths,
 };
 use text::{put, put_byte, put_decimal};
 
@@ -62,44 +61,6 @@ fn draw_note(
     let used = put_pair(page, used, b"height", tenths(layout.row_height));
     let used = put(page, used, b"><title>");
     let used = put_note_name(page, used, row);
-    put_told(page, used, message, time)
-}
-
-// How far down in its lane a drum stands: by its channel, so that those of two channels are seen side by side.
-fn down_by(channel: u8) -> u64 {
-    if channel == 0 {
-        return 0;
-    }
-    if channel == 1 {
-        return 6;
-    }
-    if channel == 2 {
-        return 12;
-    }
-    18
-}
-
-// A short mark where a drum sounds: it has no pitch, and no length to be seen.
-fn put_drum(page: &mut [u8], used: usize, layout: Layout, message: Message, time: u64) -> usize {
-    let used = put(page, used, b"<rect width=\"5\" height=\"5\" rx=\"1.5\"");
-    let used = put_pair(page, used, b"x", across(layout, time));
-    let used = put_pair(
-        page,
-        used,
-        b"y",
-        tenths(below(layout.drums, down_by(message.channel))),
-    );
-    let used = put(page, used, b" fill=\"");
-    put_colour(page, used, message.channel)
-}
-
-// Its octave and its note, which name the instrument, are told where the mouse rests on it.
-fn draw_drum(page: &mut [u8], used: usize, layout: Layout, message: Message, time: u64) -> usize {
-    let used = put_drum(page, used, layout, message, time);
-    let used = put(page, used, b"\"><title>drum of octave ");
-    let used = put_decimal(page, used, (message.value / 16) as u64);
-    let used = put(page, used, b", note ");
-    let used = put_decimal(page, used, (message.value % 16) as u64);
     put_told(page, used, message, time)
 }
 
@@ -168,15 +129,16 @@ fn draw_message(
     layout: Layout,
     bases: Bases,
     message: Message,
-    lane: Lane,
+    row: u64,
     time: u64,
 ) -> usize {
-    match lane {
-        Lane::Row { row } => draw_note(page, used, layout, bases, message, row, time),
-        Lane::Drums => draw_drum(page, used, layout, message, time),
-        Lane::Waves => draw_wave(page, used, layout, bases, message, time),
-        Lane::Others => draw_other(page, used, layout, message, time),
+    if message.kind == 1 {
+        return draw_note(page, used, layout, bases, message, row, time);
     }
+    if message.kind == 2 {
+        return draw_wave(page, used, layout, bases, message, time);
+    }
+    draw_other(page, used, layout, message, time)
 }
 
 pub fn draw_messages(
@@ -189,7 +151,7 @@ pub fn draw_messages(
     count: usize,
 ) -> usize {
     let mut now = used;
-    let mut channels = pitch::channels_at_first();
+    let mut shifts = no_shifts();
     let mut i: usize = 0;
     while i < count {
         if steps.len() <= i || words.len() <= i {
@@ -203,11 +165,10 @@ pub fn draw_messages(
             layout,
             bases,
             message,
-            lane_of(channels, message),
+            row_of(shifts, message),
             time,
         );
-        let stepped = pitch::channels_after(channels, writing::event_in(words[i]));
-        channels = stepped;
+        shifts = shifts_after(shifts, message);
         i += 1;
     }
     now

@@ -2,7 +2,7 @@
 use text::{put, put_byte, put_decimal};
 
 // What is played: the row of a track, how many messages it plays, and its end.
-#[derive(Drop)]
+#[derive(Clone, Copy)]
 pub struct Played {
     pub row: usize,
     pub count: usize,
@@ -10,7 +10,7 @@ pub struct Played {
 }
 
 // Milliseconds of a step of time, and of one of gate time.
-#[derive(Drop)]
+#[derive(Clone, Copy)]
 pub struct Bases {
     pub step: u64,
     pub gate: u64,
@@ -18,13 +18,12 @@ pub struct Bases {
 
 // What the picture shows: the pitches from the lowest row on and how high a row is; how long it lasts in milliseconds; where the lanes below
 // the rows begin and end, and the picture's height. Heights are in pixels.
-#[derive(Drop)]
+#[derive(Clone, Copy)]
 pub struct Layout {
     pub lowest: u64,
     pub rows: u64,
     pub row_height: u64,
     pub total: u64,
-    pub drums: u64,
     pub waves: u64,
     pub others: u64,
     pub bottom: u64,

@@ -1,5 +1,7 @@
 // The sections of a track, played: the word of a message, a section as a stretch of a body, and the rows of that stretch in two lent
 // tables.
+#![tactic(auto)]
+
 mod again;
 mod rest;
 mod rows;
@@ -16,7 +18,7 @@ pub use take::take_item;
 pub use word::{is_message, word_of};
 
 // Where the rows of a section stand, if that is known, and what had been played before them.
-#[derive(Drop)]
+#[derive(Clone, Copy)]
 pub struct Standing {
     pub known: bool,
     pub row: usize,
@@ -24,14 +26,14 @@ pub struct Standing {
 }
 
 // Where rows end: the index after the last, and the time that is past where the walk ended.
-#[derive(Drop)]
+#[derive(Clone, Copy)]
 pub struct Written {
     pub row: usize,
     pub time: u64,
 }
 
 // An item as plain numbers: the place after it, its duration, its word, 0 where it is no message, and whether it is an end mark.
-#[derive(Drop)]
+#[derive(Clone, Copy)]
 pub struct Taken {
     pub next: usize,
     pub duration: u32,

@@ -1,5 +1,7 @@
 // The seek body of a track: its entries read one by one, their form, the points and phrases they name, and the rules that those keep.
 // Each function answers what the definition of its name in model/specs says.
+#![tactic(auto)]
+
 mod entry;
 mod form;
 mod known;

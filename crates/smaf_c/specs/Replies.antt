@@ -1,5 +1,5 @@
 -- What C gets for each answer of an operation: 0 and 0 with the values of an accepted call, or a refusal's number and place with all else 0.
-use Rattle.std.specs.Prelude.{true, false, pos}
+use Rattle.std.specs.Prelude.{false, pos}
 use Rattle.model.specs.declared.ReadAnswer.{ReadAnswer}
 use Rattle.model.specs.declared.ReadAnswer.TheVariants as read
 use Rattle.model.specs.declared.PlayAnswer.{PlayAnswer}
@@ -47,6 +47,5 @@ entries_reply (entries.Rows count letters) = record { refusal = 0; place = 0; co
 entries_reply (entries.Refused number place) = record { refusal = number; place = place; count = 0; letters = 0 }
 
 unfoldable pub pitch_reply : Pitch → PitchReply
-pitch_reply (pitch.Semitones above) = record { refusal = 0; place = 0; drum = false; semitones = above }
-pitch_reply pitch.Drum = record { refusal = 0; place = 0; drum = true; semitones = pos 0 }
-pitch_reply (pitch.Refused number place) = record { refusal = number; place = place; drum = false; semitones = pos 0 }
+pitch_reply (pitch.Semitones above) = record { refusal = 0; place = 0; semitones = above }
+pitch_reply (pitch.Refused number place) = record { refusal = number; place = place; semitones = pos 0 }

@@ -8,7 +8,7 @@ use model::FlattenAnswer;
 
 // What C gets: so many bytes; or the refusal and its place.
 #[repr(C)]
-#[derive(Drop)]
+#[derive(Clone, Copy)]
 pub struct FlattenReply {
     pub refusal: u32,
     pub place: usize,

@@ -1,6 +1,8 @@
 // The operations for C: a file for each, with the struct that C gets by value and the exported function. Each struct begins with the
 // refusal, 0 where the call was accepted, and its place. The check code, which refuses nothing, is a number. include/smaf.h says the same
 // to C.
+#![tactic(auto)]
+
 mod check_code;
 mod flatten;
 mod note_pitch;

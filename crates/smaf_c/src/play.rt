@@ -8,7 +8,7 @@ use model::PlayAnswer;
 
 // What C gets: so many rows, and the step at which the tune ends; or the refusal and its place.
 #[repr(C)]
-#[derive(Drop)]
+#[derive(Clone, Copy)]
 pub struct PlayReply {
     pub refusal: u32,
     pub place: usize,

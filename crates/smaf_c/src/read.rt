@@ -8,7 +8,7 @@ use model::ReadAnswer;
 
 // What C gets: so many rows, the computed check code and whether the file holds it; or the refusal and its place.
 #[repr(C)]
-#[derive(Drop)]
+#[derive(Clone, Copy)]
 pub struct ReadReply {
     pub refusal: u32,
     pub place: usize,

@@ -8,7 +8,7 @@ use model::EntriesAnswer;
 
 // What C gets: so many entries, and the letters of the order list among them; or the refusal and its place.
 #[repr(C)]
-#[derive(Drop)]
+#[derive(Clone, Copy)]
 pub struct EntriesReply {
     pub refusal: u32,
     pub place: usize,

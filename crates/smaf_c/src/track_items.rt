@@ -8,7 +8,7 @@ use model::Counted;
 
 // What C gets: so many items; or the refusal and its place.
 #[repr(C)]
-#[derive(Drop)]
+#[derive(Clone, Copy)]
 pub struct ItemsReply {
     pub refusal: u32,
     pub place: usize,

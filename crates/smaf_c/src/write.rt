@@ -8,7 +8,7 @@ use model::Wrote;
 
 // What C gets: so many bytes; or the refusal and its place.
 #[repr(C)]
-#[derive(Drop)]
+#[derive(Clone, Copy)]
 pub struct WriteReply {
     pub refusal: u32,
     pub place: usize,

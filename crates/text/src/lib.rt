@@ -1,5 +1,6 @@
 // Text on its way to standard output: it is gathered on a lent page, and the page is written out whenever it is full. Each function is
 // told how much of the page is used, and answers how much is then.
+#![tactic(auto)]
 
 // Writes the page out.
 pub fn flush(page: &mut [u8], used: usize) -> usize {

@@ -1,6 +1,8 @@
 // The items of a sequence, written into lent memory. What does not fit the format or the room is refused before the first store, so a
 // refusal leaves the memory as it was. Reading gives back what was written, and writing what was read: for one item
 // proofs/PutBack.antt, proofs/ReadBack.antt and proofs/WriteBack.antt, for a whole sequence the crate `inverse`.
+#![tactic(auto)]
+
 mod duration;
 mod event;
 mod fits;

@@ -49,44 +49,11 @@ pub fn long_controls(voice: Voice) -> &'static [u8] {
     }
 }
 
-/// A bank; most are an end or stand beside the border of percussion.
-pub fn bank(random: &mut Random) -> u8 {
-    match random.percent(80) {
-        true => random.pick(&[0x00, 0x7F, 0x80, 0x80, 0xFF]),
-        false => random.byte(),
-    }
-}
-
-fn shift(random: &mut Random) -> u8 {
-    random.pick(&[0x00, 0x01, 0x02, 0x03, 0x04, 0x81, 0x82, 0x83, 0x84])
-}
-
-/// A bank, the program that puts it into force, a shift and notes, mostly of one
-/// channel, one or the other left out.
-pub fn percussion(random: &mut Random) -> Vec<Vec<u8>> {
-    let channels = [random.byte_between(0, 3), random.byte_between(0, 3)];
-    let controls = [(0x1, bank(random)), (0x0, random.byte_between(0, 0x7F)), (0x2, shift(random))];
-    let mut events = Vec::new();
-    for ((bits, value), often) in controls.into_iter().zip([80, 80, 20]) {
-        let channel = channels[usize::from(random.percent(15))];
-        if random.percent(often) {
-            events.push(vec![0x00, channel << 6 | 0x30 | bits, value]);
-        }
-    }
-    for often in [90, 40] {
-        let channel = channels[usize::from(random.percent(15))];
-        if random.percent(often) {
-            events.push(vec![channel << 6 | sound_byte(random, Voice::Score) & 0x3F, 0x01]);
-        }
-    }
-    events
-}
-
 pub fn long_control(random: &mut Random, voice: Voice) -> Vec<u8> {
     let bits = random.pick(long_controls(voice));
     let value = match bits {
-        0x1 => bank(random),
-        0x2 => shift(random),
+        0x1 => random.byte(),
+        0x2 => random.pick(&[0x00, 0x01, 0x02, 0x03, 0x04, 0x81, 0x82, 0x83, 0x84]),
         _ if random.percent(30) => random.pick(&[0x00, 0x7F]),
         _ => random.byte_between(0, 0x7F),
     };

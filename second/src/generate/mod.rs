@@ -51,15 +51,15 @@ pub fn case(operations: &[Operation], seed: u64, number: u64) -> Case {
 fn any_pitch(random: &mut Random) -> Case {
     let shifts = [0x00, 0x01, 0x04, 0x05, 0x7F, 0x80, 0x81, 0x84, 0x85];
     let shift = if random.percent(60) { random.pick(&shifts) } else { random.byte() };
-    pitch_case(random.byte(), shift, event::bank(random))
+    pitch_case(random.byte(), shift)
 }
 
-pub fn pitch_case(event: u8, shift: u8, bank: u8) -> Case {
+pub fn pitch_case(event: u8, shift: u8) -> Case {
     Case {
         operation: Operation::Pitch,
         stated: u32::from(event),
         row: u32::from(shift),
-        room: u32::from(bank),
+        room: 0,
         buffer: Vec::new(),
     }
 }
@@ -72,16 +72,9 @@ pub fn read_of_many_chunks(rows: usize) -> Case {
     Case { operation: Operation::Read, stated, row: 0, room: rows as u32, buffer }
 }
 
-/// The banks of all pitches: the ends, and the two beside the border.
-pub const BANKS: [u8; 4] = [0, 127, 128, 255];
-
-/// Every event byte with every shift byte, at each of the banks.
+/// Every event byte with every shift byte.
 pub fn all_pitches() -> impl Iterator<Item = Case> {
-    let bytes = || 0..=255;
-    let at_bank = move |bank| {
-        bytes().flat_map(move |event| bytes().map(move |shift| pitch_case(event, shift, bank)))
-    };
-    BANKS.into_iter().flat_map(at_bank)
+    (0..=255).flat_map(|event| (0..=255).map(move |shift| pitch_case(event, shift)))
 }
 
 /// The file of a case; large ones have their slots in the period.

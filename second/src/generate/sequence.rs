@@ -1,6 +1,6 @@
 //! Plans of sequence bodies: items, with end marks among them or none.
 
-use crate::generate::event::{duration, length_bytes, message, percussion, NOP};
+use crate::generate::event::{duration, length_bytes, message, NOP};
 use crate::item::{Voice, END_MARK};
 use crate::random::Random;
 
@@ -123,7 +123,6 @@ pub fn mark() -> Vec<u8> {
 
 fn add_items(random: &mut Random, voice: Voice, items: &mut Vec<Vec<u8>>) {
     match random.below(100) {
-        0..=34 if voice == Voice::Score => add_percussion(random, items),
         0..=84 => {
             let duration = duration(random);
             items.push(item(duration, &message(random, voice)));
@@ -133,13 +132,6 @@ fn add_items(random: &mut Random, voice: Voice, items: &mut Vec<Vec<u8>>) {
             let event = message(random, voice);
             add_gap(random, items, &event);
         }
-    }
-}
-
-/// What tells of percussion, and notes, side by side.
-fn add_percussion(random: &mut Random, items: &mut Vec<Vec<u8>>) {
-    for event in percussion(random) {
-        items.push(item(random.between(0, 3), &event));
     }
 }
 

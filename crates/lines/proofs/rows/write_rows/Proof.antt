@@ -6,10 +6,10 @@ use Rattle.lines.proofs.rows.write_rows.Statement.{statement}
 use Rattle.lines.proofs.rows.write_rows.Tie as tie
 
 abbrev invariant-loop : tie.invariant-loop
-invariant-loop out₀ at steps words count milliseconds channels₀ place₀ i₀ out channels place i = Rowing out₀ at steps words count milliseconds out channels place i
+invariant-loop out₀ at steps words count milliseconds shifts₀ place₀ i₀ out shifts place i = Rowing out₀ at steps words count milliseconds out shifts place i
 
 abbrev decreases-loop : tie.decreases-loop
-decreases-loop out₀ at steps words count milliseconds channels₀ place₀ i₀ out channels place i = count - i
+decreases-loop out₀ at steps words count milliseconds shifts₀ place₀ i₀ out shifts place i = count - i
 
 loop-holds : tie.Need-loop-init invariant-loop decreases-loop
 loop-holds c = search (rules, rowing)
@@ -38,8 +38,8 @@ print-event-requires c κs = search (rules, rowing)
 write-line-requires : tie.Need-write-line-requires invariant-loop decreases-loop
 write-line-requires c κs = search (rules, rowing)
 
-channels-after-requires : tie.Need-channels-after-requires invariant-loop decreases-loop
-channels-after-requires c κs = search (rules, rowing)
+shifts-after-requires : tie.Need-shifts-after-requires invariant-loop decreases-loop
+shifts-after-requires c κs = search (rules, rowing)
 
 add-i : tie.Need-overflow-add-i invariant-loop decreases-loop
 add-i c = search (rules, rowing)
@@ -62,7 +62,6 @@ write-rows-spec =
     (tie.spec
     invariant-loop
     decreases-loop
-    (λ c κs. search rules)
     loop-holds
     mul-step
     shared-slice-read-step
@@ -72,7 +71,7 @@ write-rows-spec =
     in-milliseconds-requires
     print-event-requires
     write-line-requires
-    channels-after-requires
+    shifts-after-requires
     add-i
     loop-less
     loop-again

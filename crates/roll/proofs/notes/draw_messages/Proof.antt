@@ -7,10 +7,10 @@ use Rattle.roll.proofs.notes.draw_messages.Statement.{statement}
 use Rattle.roll.proofs.notes.draw_messages.Tie as tie
 
 abbrev invariant-loop : tie.invariant-loop
-invariant-loop page₀ used layout bases steps words count now₀ channels₀ i₀ page now channels i = (i ≤ count) × (length page ≡ length page₀)
+invariant-loop page₀ used layout bases steps words count now₀ shifts₀ i₀ page now shifts i = (i ≤ count) × (length page ≡ length page₀)
 
 abbrev decreases-loop : tie.decreases-loop
-decreases-loop page₀ used layout bases steps words count now₀ channels₀ i₀ page now channels i = count - i
+decreases-loop page₀ used layout bases steps words count now₀ shifts₀ i₀ page now shifts i = count - i
 
 pub draw-messages-spec : {M : Type 1} → statement M
 draw-messages-spec =
@@ -29,9 +29,6 @@ draw-messages-spec =
     (λ c. search rules)
     (λ c κs. search rules)
     (λ c κs. search rules)
-    (λ c κs. search rules)
-    (λ c. search rules)
-    (λ c. search rules)
     (λ c κs. search rules)
     (λ c κs. search rules)
     (λ c. search rules)

@@ -16,11 +16,7 @@ returns c =
 
 returns-2 : tie.Need-returns-2
 unfolding pitch_reply
-returns-2 c = sym (ap pitch_reply c.enum_told.given.1)
-
-returns-3 : tie.Need-returns-3
-unfolding pitch_reply
-returns-3 c = sym (ap pitch_reply c.before.answer2.given.1)
+returns-2 c = sym (ap pitch_reply c.before.answer2.given.1)
 
 pub pitch-reply-spec : {M : Type 1} → statement M
-pitch-reply-spec = tie.close (tie.spec (λ c. search rules) (λ c. search rules) (λ c. search rules) returns returns-2 returns-3)
+pitch-reply-spec = tie.close (tie.spec (λ c. search rules) (λ c. search rules) returns returns-2)

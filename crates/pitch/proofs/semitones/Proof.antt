@@ -4,8 +4,8 @@ use native.Mathlib.Omega.{arith}
 use borrow.Author.Rules.{rules}
 use Rattle.pitch.proofs.Signed.{kept}
 use Rattle.pitch.proofs.Counts.{raised, lowered, down}
-use Rattle.pitch.proofs.note.semitones.Statement.{statement}
-use Rattle.pitch.proofs.note.semitones.Tie as tie
+use Rattle.pitch.proofs.semitones.Statement.{statement}
+use Rattle.pitch.proofs.semitones.Tie as tie
 
 returns : tie.Need-returns
 returns c = search (raised, kept)

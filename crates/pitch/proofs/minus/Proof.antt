@@ -1,8 +1,8 @@
 -- `minus` is the difference of two bytes.
 use borrow.Author.Rules.{rules}
 use Rattle.pitch.proofs.Signed.{minus_fits, minus_is}
-use Rattle.pitch.proofs.note.minus.Statement.{statement}
-use Rattle.pitch.proofs.note.minus.Tie as tie
+use Rattle.pitch.proofs.minus.Statement.{statement}
+use Rattle.pitch.proofs.minus.Tie as tie
 
 sub-result : tie.Need-overflow-sub-result
 sub-result c = search minus_fits

@@ -4,9 +4,8 @@ use borrow.Author.Rules.{rules}
 use Rattle.model.specs.Pitch.{pitch_of}
 use Rattle.model.proofs.Tests.{tests, junctions, not_off}
 use Rattle.pitch.proofs.Signed.{kept}
-use Rattle.pitch.proofs.Counts.{has_pitch}
-use Rattle.pitch.proofs.note.pitch_of.Statement.{statement}
-use Rattle.pitch.proofs.note.pitch_of.Tie as tie
+use Rattle.pitch.proofs.pitch_of.Statement.{statement}
+use Rattle.pitch.proofs.pitch_of.Tie as tie
 
 returns : tie.Need-returns
 unfolding pitch_of
@@ -16,25 +15,14 @@ returns-2 : tie.Need-returns-2
 unfolding pitch_of
 returns-2 c = search (tests, junctions) depth 9 fits 20000
 
-returns-3 : tie.Need-returns-3
-unfolding pitch_of
-returns-3 c = search (tests, not_off) depth 9 fits 20000
-
 semitones-requires : tie.Need-semitones-requires
 semitones-requires c κs = (omega arith, (omega arith, search tests))
 
-returns-4 : tie.Need-returns-4
-returns-4 c = search (tests, has_pitch, kept)
+returns-3 : tie.Need-returns-3
+unfolding pitch_of
+returns-3 c = search (tests, not_off, kept) depth 9 fits 20000
 
 pub pitch-of-spec : {M : Type 1} → statement M
 pitch-of-spec =
     tie.close
-    (tie.spec
-    (λ c κs. search rules)
-    returns
-    (λ c κs. search rules)
-    returns-2
-    (λ c κs. search rules)
-    returns-3
-    semitones-requires
-    returns-4)
+    (tie.spec (λ c κs. search rules) returns (λ c κs. search rules) returns-2 semitones-requires returns-3)
