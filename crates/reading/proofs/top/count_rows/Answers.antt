@@ -1,0 +1,16 @@
+-- `reading::top::count_rows` meets its contract.
+use Rattle.reading.proofs.Finding.{rows-from, rows-fine, row_Counts}
+use borrow.Author.Rules.{rules}
+use Rattle.reading.proofs.top.count_rows.Goals as goal
+
+pub count_chunks-requires : goal.count_chunks-requires
+count_chunks-requires c = record { start_le_end = (search (rules, rows-from), search rules, search rules); end_value = search (rules, rows-fine) }
+
+pub returns-in-Refused : goal.returns-in-Refused
+returns-in-Refused c = search (rules, row_Counts)
+
+pub returns-in-Closed : goal.returns-in-Closed
+returns-in-Closed c = search (rules, row_Counts)
+
+pub returns-in-Opened : goal.returns-in-Opened
+returns-in-Opened c = search (rules, row_Counts)
