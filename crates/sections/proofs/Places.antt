@@ -15,7 +15,7 @@ use Rattle.model.specs.declared.ReadItem.TheVariants.{Timed, EndMark, Refused}
 use Rattle.model.proofs.Tests.{by_test}
 use Rattle.model.proofs.Walks.{Stand}
 use Rattle.items.proofs.Addresses.{placed_at, stands_ahead}
-use Rattle.sections.specs.Spans.{Items, since, place_of, items_from}
+use Rattle.sections.specs.Spans.{Items, Rest, since, place_of, items_from}
 use Rattle.sections.proofs.InWords.{ItemInWord, item-in-word}
 
 abbrev pub Standing : Voice → List ℕ → ℕ → Items → Type 0
@@ -76,8 +76,15 @@ module _ (voice : Voice) (s : List ℕ) where
       let f = first-ahead time (past + duration_of item.what) st.0 items st.2 in
       let early : item.place < place_of (length s) (since time (past + duration_of item.what) items).items =
       omega (arith, placed_at voice s at item st.0 st.1) in
-      simp (t, lt-leb) (from_since time (past + duration_of item.what) st.0 items st.2))
-      (λ t. simp t (all_from (place_of (length s) (item ∷ items)) at (item ∷ items) st (omega (arith, place_stands at (item ∷ items) st))))
+      let on : ◌≡◌ {A = Rest} (since time past (item ∷ items)) (since time (past + duration_of item.what) items) = simp t in
+      subst (λ (rest : Rest). items_from (place_of (length s) rest.items) (item ∷ items) ≡ rest.items)
+      (sym on)
+      (simp lt-leb (from_since time (past + duration_of item.what) st.0 items st.2)))
+      (λ t.
+      let here : ◌≡◌ {A = Rest} (since time past (item ∷ items)) (record { past = past; items = item ∷ items }) = simp t in
+      subst (λ (rest : Rest). items_from (place_of (length s) rest.items) (item ∷ items) ≡ rest.items)
+      (sym here)
+      (all_from (place_of (length s) (item ∷ items)) at (item ∷ items) st (omega (arith, place_stands at (item ∷ items) st))))
 
   -- an item takes at most the longest duration
   module _ (bytes : (k : ℕ) → s ! k < 256) (small : length s ≤ 65536) where

@@ -1,0 +1,19 @@
+-- `sections::word::is_message` meets its contract.
+use Rattle.sections.proofs.Words.{messages}
+use borrow.Author.Rules.{rules}
+use Rattle.sections.proofs.word.is_message.Goals as goal
+
+pub returns-in-Nop : goal.returns-in-Nop
+returns-in-Nop c = search (rules, messages)
+
+pub returns-in-Note : goal.returns-in-Note
+returns-in-Note c = search (rules, messages)
+
+pub returns-in-Wave : goal.returns-in-Wave
+returns-in-Wave c = search (rules, messages)
+
+pub returns-in-Control : goal.returns-in-Control
+returns-in-Control c = search (rules, messages)
+
+pub returns-in-Exclusive : goal.returns-in-Exclusive
+returns-in-Exclusive c = search (rules, messages)
