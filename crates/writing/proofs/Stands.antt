@@ -66,8 +66,11 @@ pub stands_between : (front bytes rest : List ℕ) → Stands (front ++ (bytes +
 stands_between front [] rest = tt
 stands_between front (byte ∷ bytes) rest =
     let p = length-append front (byte ∷ (bytes ++ rest)) in
-    let q : length (front ++ (byte ∷ [])) ≡ length front + 1 = length-append front (byte ∷ []) in (
+    let q : length (front ++ (byte ∷ [])) ≡ length front + 1 = length-append front (byte ∷ []) in
+    let s = front ++ (byte ∷ (bytes ++ rest)) in
+    let longer = stands_between (front ++ (byte ∷ [])) bytes rest in (
       omega arith,
       get_or-append_seam front byte (bytes ++ rest) 0,
-      rw (← q, ← append_snoc front byte (bytes ++ rest)) (stands_between (front ++ (byte ∷ [])) bytes rest),
+      subst (λ (n : ℕ). Stands s n bytes) q
+          (subst (λ (l : List ℕ). Stands l (length (front ++ (byte ∷ []))) bytes) (append_snoc front byte (bytes ++ rest)) longer),
     )
