@@ -1,0 +1,70 @@
+use borrow.Author.Rules.{rules}
+use Prim.Native.Nat.{◌-◌}
+use mathlib.Core.Bool.{true, not}
+use mathlib.Core.Path.{ap}
+use lib.ListN.{length}
+use native.Mathlib.Omega.{arith}
+use Rattle.model.specs.Bytes.{◌!◌}
+use Rattle.model.specs.Item.{items_of}
+use Rattle.playing.specs.Performing.{entries_said, no_span}
+use Rattle.playing.proofs.Tables.{Known, known-before, known-now}
+use Rattle.playing.proofs.LetterSpans.{PassedBy, passage_goes_on, find_starts, finding}
+use Rattle.playing.proofs.letters.find_spans.Goals as goal
+use Rattle.playing.proofs.letters.find_spans.Goals.{then-not-known-slot+else-passage, else-not-known-slot}
+
+pub no_span-spans-requires : goal.no_span-spans-requires
+no_span-spans-requires c = search (rules, finding)
+
+pub loop-i-init : goal.loop-i-init
+loop-i-init c =
+    find_starts _ _ _ _ _ (λ k. omega (arith, c.type_inv.body k))
+    (λ k. omega (arith, c.type_inv.letters k)) (search rules) (search rules) (search rules)
+
+pub bounds-letters-i : goal.bounds-letters-i
+bounds-letters-i c = search (rules, finding)
+
+pub overflow_cast-slot : goal.overflow_cast-slot
+overflow_cast-slot c = search (rules, finding)
+
+pub bounds-known-slot : goal.bounds-known-slot
+bounds-known-slot c = search (rules, finding)
+
+pub passage_of_letter-passage-requires : goal.passage_of_letter-passage-requires
+passage_of_letter-passage-requires c = record { ready = search rules; seek_value = search (rules, finding) }
+
+pub offset_bounds-spans-slot : goal.offset_bounds-spans-slot
+offset_bounds-spans-slot c = search (rules, finding)
+
+pub bounds-spans-slot : goal.bounds-spans-slot
+bounds-spans-slot c = search (rules, finding)
+
+pub bounds-known-slot-then-not-known-slot : goal.bounds-known-slot-then-not-known-slot
+bounds-known-slot-then-not-known-slot c = search (rules, finding)
+
+pub overflow_add-result : goal.overflow_add-result
+overflow_add-result c = search (rules, finding)
+
+pub returns-then-passage : goal.returns-then-passage
+returns-then-passage c = search (rules, finding)
+
+pub overflow_add-i : goal.overflow_add-i
+overflow_add-i c = search (rules, finding)
+
+pub loop-i-smaller : goal.loop-i-smaller
+loop-i-smaller c = search (rules, finding)
+
+pub loop-i-preserved : goal.loop-i-preserved
+loop-i-preserved c =
+    let inv = c.loop-i.invariant in
+    let known : Known no_span (PassedBy (items_of c.args.voice c.args.body.now) (length c.args.body.now) (entries_said true c.args.seek.now))
+        (c.args.letters.now ! c.loop-i.i) c.loop-i.known c.if-not-known-slot.spans c.if-not-known-slot.known =
+        elim c.if-not-known-slot.branch [
+          then-not-known-slot+else-passage w ↦
+            known-now no_span _ _ _ _ inv.table _ _ _ (inv.bytes _)
+            (passage_goes_on _ _ _ _ _ w.passage_of_letter-passage.ensures w.if-passage.false) w.spans-is w.known-is
+        | else-not-known-slot w ↦ known-before no_span _ _ _ _ inv.table _ _ (ap not w.if-not-known-slot.false) w.spans-is w.known-is
+        ] in
+    search (rules, finding)
+
+pub returns : goal.returns
+returns c = search (rules, finding)
