@@ -1,6 +1,6 @@
 -- The stages of a write: which tracks there are (6, 7), what one comes to, what all of them do, and how many bytes that takes.
 use Rattle.std.specs.Prelude.{ℕ, ◌+◌, List, [], ◌++◌, length, take}
-use Rattle.model.specs.Words.{if◌then◌else◌, ◌<?◌, ◌≡?◌, Checked, Checked.fine, Checked.refused, passed, ◌>>=◌, ◌>>◌}
+use Rattle.model.specs.Words.{if◌then◌else◌, ◌<?◌, ◌≡?◌, Checked, Checked.fine, Checked.refused, passed, ◌>>◌}
 use Rattle.model.specs.Bytes.{◌!◌, part, MMMD, CNTI, Mtsq}
 use Rattle.model.specs.Item.{found}
 use Rattle.model.specs.Track.{point_width}

@@ -13,7 +13,7 @@ use Rattle.model.specs.Bytes.{◌!◌, MTR, MspI, Mtsu, Mtsq}
 use Rattle.model.specs.Chunk.{Chunk, body_place, place_after, body_bytes, chunk_list}
 use Rattle.model.specs.Item.{Item, body_of}
 use Rattle.model.specs.Seek.{Entry}
-use Rattle.model.specs.Track.{Track, fixed_size, place_of_d, place_of_g, score_voice, voice_of, fixed_fits, fixed_holds}
+use Rattle.model.specs.Track.{fixed_size, place_of_d, place_of_g, score_voice, voice_of, fixed_fits, fixed_holds}
 use Rattle.model.specs.Track.{is_part, is_allowed, part_named, required, has_waves, setup_holds, seek_in, entries_of, track_of}
 use Rattle.model.specs.File.{Top.readable, opened, top_of}
 use Rattle.model.specs.ChunkBytes.{chunk_bytes}
