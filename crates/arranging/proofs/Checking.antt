@@ -16,7 +16,7 @@ use Rattle.arranging.specs.declared.tables.Stretches.{Stretches}
 use Rattle.arranging.specs.Apart.{given_at, Apart}
 use Rattle.arranging.specs.Stages.{track_answer, tracks_answer}
 use Rattle.arranging.proofs.Clipping.{clip_next, clip_to}
-use Rattle.arranging.proofs.Tracks.{Left, left_starts, left-numbers, left-bytes, left-next, left_over}
+use Rattle.arranging.proofs.Tracks.{Left, left_starts, left_numbers, left_bytes, left_next, left_over}
 
 -- the answer where so many bytes stand before what is left
 unfoldable pub onto : ℕ → Checked (List ScoreTrack) → Wrote
@@ -88,16 +88,16 @@ module _ (numbers bytes : List ℕ) (count : ℕ) where
       some : 0 < length r.left
       some = omega (arith, r.many)
 
-      pub check-numbers : p + 4 ≤ length numbers
-      check-numbers = left-numbers numbers bytes p q r.left r.from some
+      pub check_numbers : p + 4 ≤ length numbers
+      check_numbers = left_numbers numbers bytes p q r.left r.from some
 
-      pub check-bytes : q + 7 ≤ length bytes
-      check-bytes = left-bytes numbers bytes p q r.left r.from some
+      pub check_bytes : q + 7 ≤ length bytes
+      check_bytes = left_bytes numbers bytes p q r.left r.from some
 
       module _ (parts : Stretches) (found : Apart numbers bytes p q parts) (answer : Wrote)
           (is : answer ≡ track_answer (told_at i (track_given (given_at numbers bytes p q)))) where
         next : (rest : List Given) × (r.left ≡ given_at numbers bytes p q ∷ rest) × Left numbers bytes parts.numbers parts.bytes rest
-        next = left-next numbers bytes p q r.left r.from (omega (arith, check-numbers)) (omega (arith, check-bytes)) parts found
+        next = left_next numbers bytes p q r.left r.from (omega (arith, check_numbers)) (omega (arith, check_bytes)) parts found
 
         abbrev one : Checked ScoreTrack
         one = told_at i (track_given (given_at numbers bytes p q))
@@ -106,12 +106,12 @@ module _ (numbers bytes : List ℕ) (count : ℕ) where
         unfolding tracks_from ahead
         whole = ap (λ (l : List Given). onto size (tracks_from i l)) (sym next.1) ∙ r.same
 
-        pub check-faulty : (number place : ℕ) → answer ≡ Refused number place → Refused number place ≡ tracks_answer (tracks_from 0 (given_in numbers bytes))
-        check-faulty number place e = sym (onto_faulty size number place one _ (sym is ∙ e)) ∙ whole
+        pub check_faulty : (number place : ℕ) → answer ≡ Refused number place → Refused number place ≡ tracks_answer (tracks_from 0 (given_in numbers bytes))
+        check_faulty number place e = sym (onto_faulty size number place one _ (sym is ∙ e)) ∙ whole
 
-        pub check-goes-on : (more grown : ℕ) → answer ≡ Bytes more → grown ≡ limited (size + more)
+        pub check_goes_on : (more grown : ℕ) → answer ≡ Bytes more → grown ≡ limited (size + more)
             → Checking numbers bytes count parts.numbers parts.bytes grown (i + 1)
-        check-goes-on more grown e g =
+        check_goes_on more grown e g =
             record {
               few = rw g (limited_most (size + more));
               left = next.0;
@@ -120,4 +120,4 @@ module _ (numbers bytes : List ℕ) (count : ℕ) where
               same = ap (λ (n : ℕ). onto n (tracks_from (i + 1) next.0)) g ∙ sym (onto_track size more one _ (sym is ∙ e)) ∙ whole;
             }
 
-pub ruleset checks = (check_starts, check_done, check-numbers, check-bytes, check-faulty, check-goes-on)
+pub ruleset checks = (check_starts, check_done, check_numbers, check_bytes, check_faulty, check_goes_on)

@@ -70,7 +70,7 @@ module _ (numbers bytes : List ℕ) (p q : ℕ) (here : p + 4 ≤ length numbers
             ∙ sym (rw third (ap (take long) (drop-drop 7 q bytes)));
         source =
             clip_part bytes r.source short r.bytes beyond end
-            ∙ ap (take short) source-at
+            ∙ ap (take short) source_at
             ∙ sym (rw (third, fourth) refl);
         numbers_next =
             clip_next numbers r.items (2 * few) r.numbers behind last
@@ -81,7 +81,7 @@ module _ (numbers bytes : List ℕ) (p q : ℕ) (here : p + 4 ≤ length numbers
         bytes_next =
             clip_next bytes r.source short r.bytes beyond end
             ∙ sym (drop-drop short r.source bytes)
-            ∙ ap (drop short) source-at
+            ∙ ap (drop short) source_at
             ∙ drop-drop short (7 + long) (drop q bytes)
             ∙ sym (rw (third, fourth) refl);
       }
@@ -102,8 +102,8 @@ module _ (numbers bytes : List ℕ) (p q : ℕ) (here : p + 4 ≤ length numbers
           ∙ ap (λ (n : ℕ). drop n numbers) same
           ∙ sym (drop-drop (4 + 4 * many) p numbers)
 
-      source-at : drop r.source bytes ≡ drop (7 + long) (drop q bytes)
-      source-at =
+      source_at : drop r.source bytes ≡ drop (7 + long) (drop q bytes)
+      source_at =
           let same : q + 7 + long ≡ q + (7 + long) = omega arith in
           clip_next bytes (q + 7) long r.source there source
           ∙ ap (λ (n : ℕ). drop n bytes) same

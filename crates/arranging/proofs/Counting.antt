@@ -19,7 +19,7 @@ use Rattle.arranging.specs.declared.tables.Stretches.{Stretches}
 use Rattle.arranging.specs.Apart.{given_at, Apart}
 use Rattle.arranging.specs.Stages.{how_many, count_answer}
 use Rattle.arranging.proofs.Clipping.{clip_next, clip_to, apart}
-use Rattle.arranging.proofs.Tracks.{Left, left_starts, left-no-numbers, left-no-bytes, left-next}
+use Rattle.arranging.proofs.Tracks.{Left, left_starts, left_no_numbers, left_no_bytes, left_next}
 
 -- so many tracks stand before those that are left
 unfoldable pub counted_from : List ℕ → ℕ → List Given → Checked ℕ
@@ -55,11 +55,11 @@ module _ (numbers bytes : List ℕ) where
       }
 
   module _ (seen : List Bool) (count p q : ℕ) (r : Counting numbers bytes seen count p q) where
-    pub count-inside : p ≤ length numbers
-    count-inside = r.from.inside
+    pub count_inside : p ≤ length numbers
+    count_inside = r.from.inside
 
-    pub count-within : q ≤ length bytes
-    count-within = r.from.within
+    pub count_within : q ≤ length bytes
+    count_within = r.from.within
 
     -- no track is left
     over : r.left ≡ [] → (z : Counted) → z ≡ (if count ≡? 0 then counted.Refused 7 0 else counted.Rows count) → z ≡ count_answer (how_many (given_in numbers bytes))
@@ -71,19 +71,19 @@ module _ (numbers bytes : List ℕ) where
         (λ h. e ∙ simp h (simp (sum, h) at all))
         (λ h. e ∙ simp h (simp (sum, h) at all))
 
-    pub count-no-numbers : length numbers - p < 4 → (z : Counted) → z ≡ (if count ≡? 0 then counted.Refused 7 0 else counted.Rows count)
+    pub count_no_numbers : length numbers - p < 4 → (z : Counted) → z ≡ (if count ≡? 0 then counted.Refused 7 0 else counted.Rows count)
         → z ≡ count_answer (how_many (given_in numbers bytes))
-    count-no-numbers h = over (left-no-numbers numbers bytes p q r.left r.from h)
+    count_no_numbers h = over (left_no_numbers numbers bytes p q r.left r.from h)
 
-    pub count-no-bytes : length bytes - q < 7 → (z : Counted) → z ≡ (if count ≡? 0 then counted.Refused 7 0 else counted.Rows count)
+    pub count_no_bytes : length bytes - q < 7 → (z : Counted) → z ≡ (if count ≡? 0 then counted.Refused 7 0 else counted.Rows count)
         → z ≡ count_answer (how_many (given_in numbers bytes))
-    count-no-bytes h = over (left-no-bytes numbers bytes p q r.left r.from h)
+    count_no_bytes h = over (left_no_bytes numbers bytes p q r.left r.from h)
 
     -- a track is left
     module _ (here : 4 ≤ length numbers - p) (there : 7 ≤ length bytes - q) (slot : ℕ) (numbered : slot ≡ bytes ! q) (small : slot < 256)
         (parts : Stretches) (found : Apart numbers bytes p q parts) where
       next : (rest : List Given) × (r.left ≡ given_at numbers bytes p q ∷ rest) × Left numbers bytes parts.numbers parts.bytes rest
-      next = left-next numbers bytes p q r.left r.from here there parts found
+      next = left_next numbers bytes p q r.left r.from here there parts found
 
       number_is : (given_at numbers bytes p q).number ≡ slot
       unfolding first_given
@@ -99,12 +99,12 @@ module _ (numbers bytes : List ℕ) where
       unfolding counted_from once_from ◌>>◌ count_answer if◌then◌else◌
       again h = let twice = met ∙ h in simp twice at whole
 
-      pub count-nears : length numbers - parts.numbers < length numbers - p
-      count-nears = omega (arith, found.entries_from, found.items_from, found.numbers_to)
+      pub count_nears : length numbers - parts.numbers < length numbers - p
+      count_nears = omega (arith, found.entries_from, found.items_from, found.numbers_to)
 
-      pub count-goes-on : get_or seen slot false ≡ false → Counting numbers bytes (set seen slot true) (count + 1) parts.numbers parts.bytes
+      pub count_goes_on : get_or seen slot false ≡ false → Counting numbers bytes (set seen slot true) (count + 1) parts.numbers parts.bytes
       unfolding counted_from once_from any ◌or◌
-      count-goes-on h =
+      count_goes_on h =
           let first = met ∙ h in
           let one = given_at numbers bytes p q in
           let rest = next.0 in
@@ -132,9 +132,9 @@ module _ (numbers bytes : List ℕ) where
               simp t (r.flagged n k ∙ sym (get_or-set_other seen slot n true false e))))
 
     -- that a track is left can be told before its stretches are found
-    pub count-again : 4 ≤ length numbers - p → 7 ≤ length bytes - q → (slot : ℕ) → slot ≡ bytes ! q → slot < 256 → get_or seen slot false ≡ true
+    pub count_again : 4 ≤ length numbers - p → 7 ≤ length bytes - q → (slot : ℕ) → slot ≡ bytes ! q → slot < 256 → get_or seen slot false ≡ true
         → counted.Refused 6 count ≡ count_answer (how_many (given_in numbers bytes))
-    count-again here there slot numbered small h =
+    count_again here there slot numbered small h =
         let inside = r.from.inside in
         let within = r.from.within in
         let items = min (p + 4 + 4 * numbers ! p) (length numbers) in
@@ -149,4 +149,4 @@ module _ (numbers bytes : List ℕ) where
         again here there slot numbered small parts
         (apart numbers bytes p q (omega arith) (omega arith) parts _ _ _ _ refl refl refl refl refl refl refl refl) h
 
-pub ruleset counts = (count_starts, count-inside, count-within, count-no-numbers, count-no-bytes, count-again, count-nears, count-goes-on, is_on, is_off)
+pub ruleset counts = (count_starts, count_inside, count_within, count_no_numbers, count_no_bytes, count_again, count_nears, count_goes_on, is_on, is_off)

@@ -19,7 +19,7 @@ use Rattle.arranging.specs.declared.tables.Stretches.{Stretches}
 use Rattle.arranging.specs.Apart.{given_at, Apart}
 use Rattle.arranging.specs.Stages.{track_given_bytes, tracks_given_bytes}
 use Rattle.arranging.proofs.Clipping.{clip_next, clip_to}
-use Rattle.arranging.proofs.Tracks.{Left, left_starts, left-numbers, left-bytes, left-next, left_over}
+use Rattle.arranging.proofs.Tracks.{Left, left_starts, left_numbers, left_bytes, left_next, left_over}
 
 pub record Filling (numbers bytes : List ℕ) (count start : ℕ) (l out : List ℕ) (p q at i : ℕ) : Type 0 where
   pub left : List Given
@@ -64,9 +64,9 @@ module _ (numbers bytes : List ℕ) (count start : ℕ) (l : List ℕ) where
           let q : [] ≡ r.rest = cc in
           sym q
 
-      pub filled-size : at ≡ start + length (tracks_given_bytes (tracks_from 0 (given_in numbers bytes)))
+      pub filled_size : at ≡ start + length (tracks_given_bytes (tracks_from 0 (given_in numbers bytes)))
       unfolding tracks_bytes
-      filled-size = sym (add-zero at) ∙ rw none at r.size
+      filled_size = sym (add-zero at) ∙ rw none at r.size
 
       pub filled : out ≡ sets l start (tracks_given_bytes (tracks_from 0 (given_in numbers bytes)))
       unfolding tracks_bytes
@@ -76,15 +76,15 @@ module _ (numbers bytes : List ℕ) (count start : ℕ) (l : List ℕ) where
       some : 0 < length r.left
       some = omega (arith, r.many)
 
-      pub fill-numbers : p + 4 ≤ length numbers
-      fill-numbers = left-numbers numbers bytes p q r.left r.from some
+      pub fill_numbers : p + 4 ≤ length numbers
+      fill_numbers = left_numbers numbers bytes p q r.left r.from some
 
-      pub fill-bytes : q + 7 ≤ length bytes
-      fill-bytes = left-bytes numbers bytes p q r.left r.from some
+      pub fill_bytes : q + 7 ≤ length bytes
+      fill_bytes = left_bytes numbers bytes p q r.left r.from some
 
       module _ (parts : Stretches) (found : Apart numbers bytes p q parts) where
         next : (more : List Given) × (r.left ≡ given_at numbers bytes p q ∷ more) × Left numbers bytes parts.numbers parts.bytes more
-        next = left-next numbers bytes p q r.left r.from (omega (arith, fill-numbers)) (omega (arith, fill-bytes)) parts found
+        next = left_next numbers bytes p q r.left r.from (omega (arith, fill_numbers)) (omega (arith, fill_bytes)) parts found
 
         abbrev one : Checked ScoreTrack
         one = track_given (given_at numbers bytes p q)
@@ -97,9 +97,9 @@ module _ (numbers bytes : List ℕ) (count start : ℕ) (l : List ℕ) where
             let same : a.0 ∷ b.0 ≡ r.rest = let q = b.2 in cc in
             (a.0, b.0, told_fine i one a.0 a.1, b.1, sym same)
 
-        pub fill-there : is_fine (track_given (given_at numbers bytes p q)) ≡ true
+        pub fill_there : is_fine (track_given (given_at numbers bytes p q)) ≡ true
         unfolding is_fine
-        fill-there = ap is_fine first.2
+        fill_there = ap is_fine first.2
 
         split : tracks_bytes r.rest ≡ track_given_bytes one ++ tracks_bytes first.1
         unfolding tracks_bytes track_given_bytes
@@ -108,11 +108,11 @@ module _ (numbers bytes : List ℕ) (count start : ℕ) (l : List ℕ) where
         both : length (tracks_bytes r.rest) ≡ length (track_given_bytes one) + length (tracks_bytes first.1)
         both = ap length split ∙ length-append (track_given_bytes one) (tracks_bytes first.1)
 
-        pub fill-room : at + length (track_given_bytes (track_given (given_at numbers bytes p q))) ≤ length out
-        fill-room = omega (arith, r.room, both)
+        pub fill_room : at + length (track_given_bytes (track_given (given_at numbers bytes p q))) ≤ length out
+        fill_room = omega (arith, r.room, both)
 
-        pub fill-few : length (track_given_bytes (track_given (given_at numbers bytes p q))) ≤ 65536
-        fill-few = omega (arith, r.few, both)
+        pub fill_few : length (track_given_bytes (track_given (given_at numbers bytes p q))) ≤ 65536
+        fill_few = omega (arith, r.few, both)
 
         pub fill_more : (m : List ℕ) (further : ℕ) → further ≡ at + length (track_given_bytes (track_given (given_at numbers bytes p q)))
             → m ≡ sets out at (track_given_bytes (track_given (given_at numbers bytes p q))) → length m ≡ length out
@@ -135,4 +135,4 @@ module _ (numbers bytes : List ℕ) (count start : ℕ) (l : List ℕ) where
               whole = stored ∙ r.whole;
             }
 
-pub ruleset fills = (fill_starts, filled-size, filled, fill-numbers, fill-bytes, fill-there, fill-room, fill-few, fill_more)
+pub ruleset fills = (fill_starts, filled_size, filled, fill_numbers, fill_bytes, fill_there, fill_room, fill_few, fill_more)

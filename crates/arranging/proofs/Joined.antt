@@ -56,7 +56,7 @@ module _ (numbers bytes : List ℕ) (p q : ℕ) (r : Stretches) (apart : Apart n
     pub at_next : (n : ℕ) → n ≡ at + length (track_given_bytes (track_given there)) → n ≡ at + length (track_given_bytes (track_given (given_at numbers bytes p q)))
     at_next n e = e ∙ ap (λ (b : List ℕ). at + length b) same_bytes
 
-    pub at-wrote : (m : List ℕ) → m ≡ sets l at (track_given_bytes (track_given there)) → m ≡ sets l at (track_given_bytes (track_given (given_at numbers bytes p q)))
-    at-wrote m e = e ∙ ap (sets l at) same_bytes
+    pub at_wrote : (m : List ℕ) → m ≡ sets l at (track_given_bytes (track_given there)) → m ≡ sets l at (track_given_bytes (track_given (given_at numbers bytes p q)))
+    at_wrote m e = e ∙ ap (sets l at) same_bytes
 
-pub ruleset joining = (head_length, at_answer, at_fine, at_room, at_few, at_next, at-wrote)
+pub ruleset joining = (head_length, at_answer, at_fine, at_room, at_few, at_next, at_wrote)

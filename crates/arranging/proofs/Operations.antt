@@ -21,7 +21,7 @@ use Rattle.model.proofs.Tests.{by_test}
 use Rattle.writing.specs.Parts.{limited}
 use Rattle.arranging.specs.Stages.{how_many, count_answer, tracks_answer, tracks_given_bytes, bare_bytes, whole_bytes, sized_of}
 use Rattle.arranging.proofs.Clipping.{clip_next, clip_to}
-use Rattle.arranging.proofs.Tracks.{left_starts, left-bytes}
+use Rattle.arranging.proofs.Tracks.{left_starts, left_bytes}
 
 -- refused before anything is written
 module _ (numbers bytes l : List ℕ) (number place : ℕ) (refuses : write_of numbers bytes (length l) ≡ refused number place) where
@@ -105,29 +105,29 @@ module _ (numbers bytes l : List ℕ) (many : Counted) (counts : many ≡ count_
     unfolding ◌>>=◌
     none_written = staged numbers bytes (length l) ∙ rw (count_refused (how_many (given_in numbers bytes)) number place (sym counts ∙ refuses))
 
-    pub count-answer : Refused number place ≡ write_answer (write_of numbers bytes (length l))
-    count-answer = refused_answer numbers bytes l number place none_written
+    pub count_answer_lem : Refused number place ≡ write_answer (write_of numbers bytes (length l))
+    count_answer_lem = refused_answer numbers bytes l number place none_written
 
     pub count_kept : l ≡ write_room l (write_of numbers bytes (length l))
     count_kept = refused_kept numbers bytes l number place none_written
 
   module _ (count : ℕ) (counted-so : many ≡ counted.Rows count) where
-    is-fine : how_many (given_in numbers bytes) ≡ fine count
-    is-fine = count_fine (how_many (given_in numbers bytes)) count (sym counts ∙ counted-so)
+    is_fine_lem : how_many (given_in numbers bytes) ≡ fine count
+    is_fine_lem = count_fine (how_many (given_in numbers bytes)) count (sym counts ∙ counted-so)
 
-    pub count-is : count ≡ length (given_in numbers bytes)
-    count-is = (how_many_lem (given_in numbers bytes) count is-fine).0
+    pub count_is : count ≡ length (given_in numbers bytes)
+    count_is = (how_many_lem (given_in numbers bytes) count is_fine_lem).0
 
-    pub contents-there : 5 ≤ length bytes
-    contents-there =
+    pub contents_there : 5 ≤ length bytes
+    contents_there =
         let q = min (0 + 5) (length bytes) in
         let from = left_starts numbers bytes q (clip_next bytes 0 5 q (omega arith) refl) (clip_to bytes 0 5 q (omega arith) refl) in
-        let some : 0 < length (given_in numbers bytes) = omega (arith, how_many_lem (given_in numbers bytes) count is-fine) in
-        omega (arith, left-bytes numbers bytes 0 q (given_in numbers bytes) from some)
+        let some : 0 < length (given_in numbers bytes) = omega (arith, how_many_lem (given_in numbers bytes) count is_fine_lem) in
+        omega (arith, left_bytes numbers bytes 0 q (given_in numbers bytes) from some)
 
     rests : write_of numbers bytes (length l) ≡ behind numbers bytes (length l)
     unfolding ◌>>=◌
-    rests = staged numbers bytes (length l) ∙ rw is-fine
+    rests = staged numbers bytes (length l) ∙ rw is_fine_lem
 
     module _ (answer : Wrote) (is : answer ≡ tracks_answer (tracks_from 0 (given_in numbers bytes))) where
       module _ (number place : ℕ) (refuses : answer ≡ Refused number place) where
@@ -135,11 +135,11 @@ module _ (numbers bytes l : List ℕ) (many : Counted) (counts : many ≡ count_
         unfolding behind ◌>>=◌
         not_written = rests ∙ rw (tracks_refused (tracks_from 0 (given_in numbers bytes)) number place (sym is ∙ refuses))
 
-        pub tracks-answer : Refused number place ≡ write_answer (write_of numbers bytes (length l))
-        tracks-answer = refused_answer numbers bytes l number place not_written
+        pub tracks_answer_lem : Refused number place ≡ write_answer (write_of numbers bytes (length l))
+        tracks_answer_lem = refused_answer numbers bytes l number place not_written
 
-        pub tracks-kept : l ≡ write_room l (write_of numbers bytes (length l))
-        tracks-kept = refused_kept numbers bytes l number place not_written
+        pub tracks_kept : l ≡ write_room l (write_of numbers bytes (length l))
+        tracks_kept = refused_kept numbers bytes l number place not_written
 
       module _ (size : ℕ) (sized : answer ≡ Bytes size) where
         these : (tracks : List ScoreTrack) × (tracks_from 0 (given_in numbers bytes) ≡ fine tracks)
@@ -150,28 +150,28 @@ module _ (numbers bytes l : List ℕ) (many : Counted) (counts : many ≡ count_
         unfolding is_fine
         tracks_given = ap is_fine these.1
 
-        pub tracks-sized : size ≡ limited (length (tracks_given_bytes (tracks_from 0 (given_in numbers bytes))))
-        tracks-sized = these.2
+        pub tracks_sized : size ≡ limited (length (tracks_given_bytes (tracks_from 0 (given_in numbers bytes))))
+        tracks_sized = these.2
 
         goes_on : write_of numbers bytes (length l) ≡ sized_of numbers bytes (length l)
         unfolding behind ◌>>=◌
         goes_on = rests ∙ rw these.1
 
-        pub sized-answer : (z : Wrote) → z ≡ write_answer (sized_of numbers bytes (length l)) → z ≡ write_answer (write_of numbers bytes (length l))
-        sized-answer z e = e ∙ ap write_answer (sym goes_on)
+        pub sized_answer : (z : Wrote) → z ≡ write_answer (sized_of numbers bytes (length l)) → z ≡ write_answer (write_of numbers bytes (length l))
+        sized_answer z e = e ∙ ap write_answer (sym goes_on)
 
-        pub sized-room : (m : List ℕ) → m ≡ write_room l (sized_of numbers bytes (length l)) → m ≡ write_room l (write_of numbers bytes (length l))
-        sized-room m e = e ∙ ap (write_room l) (sym goes_on)
+        pub sized_room : (m : List ℕ) → m ≡ write_room l (sized_of numbers bytes (length l)) → m ≡ write_room l (write_of numbers bytes (length l))
+        sized_room m e = e ∙ ap (write_room l) (sym goes_on)
 
 pub ruleset written = (
-  count-answer,
+  count_answer_lem,
   count_kept,
-  count-is,
-  contents-there,
-  tracks-answer,
-  tracks-kept,
+  count_is,
+  contents_there,
+  tracks_answer_lem,
+  tracks_kept,
   tracks_given,
-  tracks-sized,
-  sized-answer,
-  sized-room,
+  tracks_sized,
+  sized_answer,
+  sized_room,
 )

@@ -32,8 +32,8 @@ use Rattle.entries.specs.Places.{is_place}
 use Rattle.entries.specs.Rules.{rules_hold, seek_stage, Tells}
 use Rattle.entries.specs.declared.rows.Told.{Told}
 use Rattle.entries.proofs.GivenEntries.{given_twelve}
-use Rattle.entries.proofs.ChunkOf.{given-chunk-size}
-use Rattle.entries.proofs.PlacesAre.{rules-are}
+use Rattle.entries.proofs.ChunkOf.{given_chunk_size}
+use Rattle.entries.proofs.PlacesAre.{rules_are}
 use Rattle.arranging.specs.Stages.{given_of, track_answer}
 use Rattle.arranging.proofs.TrackStores.{chunk_long, head_byte}
 
@@ -90,7 +90,7 @@ module _ (phrases : Bool) (entries items letters : List ℕ) where
   unfolding is_fine found
   stage_sized placed e =
       let given = stage_given placed e in
-      sym (given-chunk-size phrases letters entries (ap is_fine given))
+      sym (given_chunk_size phrases letters entries (ap is_fine given))
       ∙ ap (λ (o : Checked (List (Placed Entry))). length (seek_chunk (point_width phrases) (entries_in (found o)))) given
 
 pub track_sum : (chunk body seek first whole : ℕ) → seek ≡ limited chunk → first ≡ limited (seek + body) → whole ≡ limited (first + 22) → whole ≡ limited (chunk + body + 22)
@@ -146,21 +146,21 @@ module _ (index : ℕ) (head entries items letters source : List ℕ) where
   told number place e = rw e
 
   module _ (fixed : Bool) (fits : fixed ≡ is_fine (fixed_given (part head 1 6))) where
-    pub track-fixed : not fixed ≡ true → Refused 8 index ≡ track_answer (told_at index (track_given (given_of head entries items letters source)))
+    pub track_fixed : not fixed ≡ true → Refused 8 index ≡ track_answer (told_at index (track_given (given_of head entries items letters source)))
     unfolding track_given fixed_given ◌>>◌
-    track-fixed h = told 8 0 (rw (off-refused (flag_off fits h)))
+    track_fixed h = told 8 0 (rw (off_refused (flag_off fits h)))
       where
-        off-refused : is_fine (fixed_given (part head 1 6)) ≡ false → fixed_given (part head 1 6) ≡ refused 8 0
-        off-refused = fixed_off (part head 1 6)
+        off_refused : is_fine (fixed_given (part head 1 6)) ≡ false → fixed_given (part head 1 6) ≡ refused 8 0
+        off_refused = fixed_off (part head 1 6)
 
     module _ (seven : length head ≡ 7) (on : not fixed ≡ false) (answer : Wrote) (is : answer ≡ size_answer (items_given Score source items)) where
       held : fixed_given (part head 1 6) ≡ passed
       held = fixed_on (part head 1 6) (flag_on fits on)
 
-      pub track-items-refused : (number place : ℕ) → answer ≡ Refused number place
+      pub track_items_refused : (number place : ℕ) → answer ≡ Refused number place
           → Refused number index ≡ track_answer (told_at index (track_given (given_of head entries items letters source)))
       unfolding track_given ◌>>◌ ◌>>=◌
-      track-items-refused number place e = told number place (rw (held, items_refused (items_given Score source items) number place (sym is ∙ e)))
+      track_items_refused number place e = told number place (rw (held, items_refused (items_given Score source items) number place (sym is ∙ e)))
 
       module _ (list : List (Item Content)) (given : items_given Score source items ≡ fine list) (size : ℕ) (sized : size ≡ limited (length (bytes_of handy_phone list))) where
         abbrev made : List (Placed Entry) → ScoreTrack
@@ -171,10 +171,10 @@ module _ (index : ℕ) (head entries items letters source : List ℕ) where
         opened = rw (held, given, phrased)
 
         -- how many bytes a track takes
-        track-long : (placed : List (Placed Entry))
+        track_long : (placed : List (Placed Entry))
             → length (track_bytes (made placed)) ≡ length (seek_chunk (point_width phrases) (entries_in placed)) + length (bytes_of handy_phone list) + 22
         unfolding track_bytes
-        track-long placed =
+        track_long placed =
             let seek = seek_chunk (point_width phrases) (entries_in placed) in
             let body = chunk_bytes Mtsq (bytes_of handy_phone list) in
             let a = length-append (part head 1 6 ++ seek) body in
@@ -198,10 +198,10 @@ module _ (index : ℕ) (head entries items letters source : List ℕ) where
           where
             ruled : (placed : List (Placed Entry)) → entries_given phrases letters entries ≡ fine placed → (q : Checked (Unit {0})) → rules_hold phrases (is_place items) placed ≡ q
                 → size_behind index phrases size stage ≡ track_answer (told_at index track)
-            ruled placed f (refused number place) q = rw (← e, opened, f, ← rules-are Score source items list given phrases placed, q)
+            ruled placed f (refused number place) q = rw (← e, opened, f, ← rules_are Score source items list given phrases placed, q)
             ruled placed f (fine u) q =
-                rw (← e, opened, f, ← rules-are Score source items list given phrases placed, q)
-                (ap Bytes (sums _ ∙ ap limited (sym (track-long placed))))
+                rw (← e, opened, f, ← rules_are Score source items list given phrases placed, q)
+                (ap Bytes (sums _ ∙ ap limited (sym (track_long placed))))
 
             go : (o : Checked (List (Placed Entry))) → entries_given phrases letters entries ≡ o → size_behind index phrases size stage ≡ track_answer (told_at index track)
             go (refused number place) f = rw (← e, opened, f)
@@ -211,32 +211,32 @@ module _ (index : ℕ) (head entries items letters source : List ℕ) where
         these : (list : List (Item Content)) × (items_given Score source items ≡ fine list) × (size ≡ limited (length (bytes_of handy_phone list)))
         these = items_fine (items_given Score source items) size (sym is ∙ sized)
 
-        fault-is : told_entries.fault ≡ fault_in (seek_stage phrases entries items letters)
+        fault_is : told_entries.fault ≡ fault_in (seek_stage phrases entries items letters)
         unfolding is_fine
-        fault-is = tells.so (ap is_fine these.1)
+        fault_is = tells.so (ap is_fine these.1)
 
         whole_is : (stage : Checked (List (Placed Entry))) → seek_stage phrases entries items letters ≡ stage → size_behind index phrases size stage ≡ track_answer (told_at index track)
         whole_is = behind these.0 these.1 size these.2
 
-        pub track-entries-refused : (told_entries.fault ≡ 0 → ⊥)
+        pub track_entries_refused : (told_entries.fault ≡ 0 → ⊥)
             → Refused told_entries.fault index ≡ track_answer (told_at index (track_given (given_of head entries items letters source)))
         unfolding fault_in size_behind
-        track-entries-refused h = go (seek_stage phrases entries items letters) refl
+        track_entries_refused h = go (seek_stage phrases entries items letters) refl
           where
             go : (stage : Checked (List (Placed Entry))) → seek_stage phrases entries items letters ≡ stage
                 → Refused told_entries.fault index ≡ track_answer (told_at index (track_given (given_of head entries items letters source)))
-            go (fine placed) e = absurd (h (fault-is ∙ ap fault_in e))
-            go (refused number place) e = ap (λ (n : ℕ). Refused n index) (fault-is ∙ ap fault_in e) ∙ whole_is (refused number place) e
+            go (fine placed) e = absurd (h (fault_is ∙ ap fault_in e))
+            go (refused number place) e = ap (λ (n : ℕ). Refused n index) (fault_is ∙ ap fault_in e) ∙ whole_is (refused number place) e
 
-        pub track-sized : (whole : ℕ) → told_entries.fault ≡ 0 → whole ≡ limited (seek_size (head ! 2 ≡? 1) letters (rows_in entries) + size + 22)
+        pub track_sized : (whole : ℕ) → told_entries.fault ≡ 0 → whole ≡ limited (seek_size (head ! 2 ≡? 1) letters (rows_in entries) + size + 22)
             → Bytes whole ≡ track_answer (told_at index (track_given (given_of head entries items letters source)))
         unfolding fault_in size_behind
-        track-sized whole h sum = go (seek_stage phrases entries items letters) refl (stage_numbered phrases entries items letters)
+        track_sized whole h sum = go (seek_stage phrases entries items letters) refl (stage_numbered phrases entries items letters)
           where
             go : (stage : Checked (List (Placed Entry))) → seek_stage phrases entries items letters ≡ stage → Numbered stage
                 → Bytes whole ≡ track_answer (told_at index (track_given (given_of head entries items letters source)))
-            go (refused number place) e k = absurd (omega (arith, fault-is ∙ ap fault_in e))
+            go (refused number place) e k = absurd (omega (arith, fault_is ∙ ap fault_in e))
             go (fine placed) e k =
                 ap Bytes (sum ∙ ap (λ (n : ℕ). limited (n + size + 22)) (stage_sized phrases entries items letters placed e)) ∙ whole_is (fine placed) e
 
-pub ruleset track_checks = (track-fixed, track-items-refused, track-entries-refused, track-sized)
+pub ruleset track_checks = (track_fixed, track_items_refused, track_entries_refused, track_sized)

@@ -49,11 +49,11 @@ module _ (head : List ℕ) (z : Bool) where
   fixed_so h e =
       let first = eq-eqb (part head 1 6 ! 0) 0 (head_byte head 0 (omega arith) ∙ h) in
       by_test (fixed_fits Score head 1)
-      (λ t. let same = fits-same ∙ t in e ∙ t ∙ sym (simp (first, same)))
-      (λ t. let same = fits-same ∙ t in e ∙ t ∙ sym (simp (first, same)))
+      (λ t. let same = fits_same ∙ t in e ∙ t ∙ sym (simp (first, same)))
+      (λ t. let same = fits_same ∙ t in e ∙ t ∙ sym (simp (first, same)))
     where
-      fits-same : fixed_fits Score (part head 1 6) 0 ≡ fixed_fits Score head 1
-      fits-same = same_fixed head
+      fits_same : fixed_fits Score (part head 1 6) 0 ≡ fixed_fits Score head 1
+      fits_same = same_fixed head
 
 pub ruleset fixed_bytes = (fixed_other, fixed_so)
 
@@ -100,10 +100,10 @@ module _ (head entries letters : List ℕ) (seven : length head ≡ 7) where
     pub fixed_room : at + 6 ≤ length l
     fixed_room = omega arith
 
-    pub seek-room : (m : List ℕ) (list : ℕ) → length m ≡ length l → list ≡ at + 6
+    pub seek_room : (m : List ℕ) (list : ℕ) → length m ≡ length l → list ≡ at + 6
         → list + length (seek_chunk (point_width (head ! 2 ≡? 1)) (entries_in (found (entries_given (head ! 2 ≡? 1) letters entries)))) ≤ length m
     unfolding seek_of
-    seek-room m list same e = omega arith
+    seek_room m list same e = omega arith
 
   pub seek_few : length (seek_of head entries letters) ≤ 65536
       → length (seek_chunk (point_width (head ! 2 ≡? 1)) (entries_in (found (entries_given (head ! 2 ≡? 1) letters entries)))) ≤ 65536
@@ -111,10 +111,10 @@ module _ (head entries letters : List ℕ) (seven : length head ≡ 7) where
   seek_few h = h
 
   module _ (at list : ℕ) (behind : list ≡ at + 6) where
-    pub front-next : (n : ℕ) → n ≡ list + length (seek_chunk (point_width (head ! 2 ≡? 1)) (entries_in (found (entries_given (head ! 2 ≡? 1) letters entries))))
+    pub front_next : (n : ℕ) → n ≡ list + length (seek_chunk (point_width (head ! 2 ≡? 1)) (entries_in (found (entries_given (head ! 2 ≡? 1) letters entries))))
         → n ≡ at + (6 + length (seek_of head entries letters))
     unfolding seek_of
-    front-next n e = omega arith
+    front_next n e = omega arith
 
     pub front_stored : (l one two : List ℕ) → one ≡ sets l at (part head 1 6)
         → two ≡ sets one list (seek_chunk (point_width (head ! 2 ≡? 1)) (entries_in (found (entries_given (head ! 2 ≡? 1) letters entries))))
@@ -122,7 +122,7 @@ module _ (head entries letters : List ℕ) (seven : length head ≡ 7) where
     unfolding seek_of
     front_stored l one two a b = let p : list ≡ at + length (part head 1 6) = omega (arith, six) in rw (b, a, p) (sets_append l at (part head 1 6) _)
 
-pub ruleset fronts = (fixed_room, seek-room, seek_few, front-next, front_stored)
+pub ruleset fronts = (fixed_room, seek_room, seek_few, front_next, front_stored)
 
 -- WHAT A TRACK IS that can be written
 module _ (head entries items letters source : List ℕ) (given : is_fine (track_given (given_of head entries items letters source)) ≡ true) where
@@ -142,8 +142,8 @@ module _ (head entries items letters source : List ℕ) (given : is_fine (track_
   record Said : Type 0 where
     list : List (Item Content)
     placed : List (Placed Entry)
-    items-are : items_given Score source items ≡ fine list
-    entries-are : entries_given phrases letters entries ≡ fine placed
+    items_are : items_given Score source items ≡ fine list
+    entries_are : entries_given phrases letters entries ≡ fine placed
     is : track_given (given_of head entries items letters source) ≡ fine (record { number = head ! 0; fixed = fixed; entries = entries_in placed; items = list })
 
   said : Said
@@ -157,8 +157,8 @@ module _ (head entries items letters source : List ℕ) (given : is_fine (track_
       record {
         list = b.0;
         placed = c.0;
-        items-are = b.1;
-        entries-are = ap (λ (p : Bool). entries_given p letters entries) (sym phrased) ∙ c.1;
+        items_are = b.1;
+        entries_are = ap (λ (p : Bool). entries_given p letters entries) (sym phrased) ∙ c.1;
         is = track.1 ∙ sym d.1;
       }
 
@@ -166,45 +166,45 @@ module _ (head entries items letters source : List ℕ) (given : is_fine (track_
   unfolding track_given_bytes track_bytes list_bytes found seek_of inside_of
   bytes_are =
       let made = ap track_given_bytes said.is in
-      let listed : list_bytes (items_given Score source items) ≡ bytes_of handy_phone said.list = ap list_bytes said.items-are in
-      let these : found (entries_given phrases letters entries) ≡ said.placed = ap found said.entries-are in
+      let listed : list_bytes (items_given Score source items) ≡ bytes_of handy_phone said.list = ap list_bytes said.items_are in
+      let these : found (entries_given phrases letters entries) ≡ said.placed = ap found said.entries_are in
       made ∙ rw (phrased, listed, these) refl
 
   pub track_items : is_fine (items_given Score source items) ≡ true
   unfolding is_fine
-  track_items = ap is_fine said.items-are
+  track_items = ap is_fine said.items_are
 
   pub track_entries : is_fine (entries_given (head ! 2 ≡? 1) letters entries) ≡ true
   unfolding is_fine
-  track_entries = ap is_fine said.entries-are
+  track_entries = ap is_fine said.entries_are
 
   pub whole_long : length (track_given_bytes (track_given (given_of head entries items letters source))) ≡ 8 + length (inside_of head entries items letters source)
   whole_long = ap length bytes_are ∙ chunk_long (MTR * 256 + head ! 0) _
 
   -- its header over the place before what it holds
   module _ (l : List ℕ) (at : ℕ) where
-    pub inside-room : at + length (track_given_bytes (track_given (given_of head entries items letters source))) ≤ length l
+    pub inside_room : at + length (track_given_bytes (track_given (given_of head entries items letters source))) ≤ length l
         → at + 8 + length (inside_of head entries items letters source) ≤ length l
-    inside-room h = omega (arith, whole_long)
+    inside_room h = omega (arith, whole_long)
 
     module _ (end : ℕ) (ends : end ≡ at + 8 + length (inside_of head entries items letters source)) where
-      pub close-from : at + 8 ≤ end
-      close-from = omega arith
+      pub close_from : at + 8 ≤ end
+      close_from = omega arith
 
-      pub close-inside : (m : List ℕ) → at + length (track_given_bytes (track_given (given_of head entries items letters source))) ≤ length l → length m ≡ length l
+      pub close_inside : (m : List ℕ) → at + length (track_given_bytes (track_given (given_of head entries items letters source))) ≤ length l → length m ≡ length l
           → end ≤ length m
-      close-inside m room same = omega (arith, whole_long)
+      close_inside m room same = omega (arith, whole_long)
 
-      pub close-few : length (track_given_bytes (track_given (given_of head entries items letters source))) ≤ 65536 → end ≤ at + 8 + 65536
-      close-few few = omega (arith, whole_long)
+      pub close_few : length (track_given_bytes (track_given (given_of head entries items letters source))) ≤ 65536 → end ≤ at + 8 + 65536
+      close_few few = omega (arith, whole_long)
 
-      pub track-next : end ≡ at + length (track_given_bytes (track_given (given_of head entries items letters source)))
-      track-next = omega (arith, whole_long)
+      pub track_next : end ≡ at + length (track_given_bytes (track_given (given_of head entries items letters source)))
+      track_next = omega (arith, whole_long)
 
-      pub track-stored : (id : ℕ) (one two : List ℕ) → id ≡ MTR * 256 + head ! 0 → one ≡ sets l (at + 8) (inside_of head entries items letters source)
+      pub track_stored : (id : ℕ) (one two : List ℕ) → id ≡ MTR * 256 + head ! 0 → one ≡ sets l (at + 8) (inside_of head entries items letters source)
           → two ≡ sets one at (number_bytes 4 id ++ number_bytes 4 (end - (at + 8)))
           → two ≡ sets l at (track_given_bytes (track_given (given_of head entries items letters source)))
-      track-stored id one two named a b =
+      track_stored id one two named a b =
           let inside = inside_of head entries items letters source in
           let size : end - (at + 8) ≡ length inside = omega arith in
           rw (b, a, size, named) (header_before l inside at (MTR * 256 + head ! 0)) ∙ ap (sets l at) (sym bytes_are)
@@ -213,7 +213,7 @@ module _ (head entries items letters source : List ℕ) (given : is_fine (track_
       → length (inside_of head entries items letters source) ≤ 65536
   inside_few few = omega (arith, whole_long)
 
-pub ruleset track_parts = (inside-room, inside_few, close-from, close-inside, close-few, track-next, track-stored)
+pub ruleset track_parts = (inside_room, inside_few, close_from, close_inside, close_few, track_next, track_stored)
 
 -- what it holds: the front, and the sequence chunk behind it
 module _ (head entries items letters source : List ℕ) (seven : length head ≡ 7) where
@@ -225,32 +225,32 @@ module _ (head entries items letters source : List ℕ) (seven : length head ≡
       omega (arith, a, b, six head entries letters seven, chunk_long Mtsq (list_bytes (items_given Score source items)))
 
   module _ (few : length (inside_of head entries items letters source) ≤ 65536) where
-    pub front-few : length (seek_of head entries letters) ≤ 65536
-    front-few = omega (arith, inside_long)
+    pub front_few : length (seek_of head entries letters) ≤ 65536
+    front_few = omega (arith, inside_long)
 
-    pub body-few : length (list_bytes (items_given Score source items)) ≤ 65536
-    body-few = omega (arith, inside_long)
+    pub body_few : length (list_bytes (items_given Score source items)) ≤ 65536
+    body_few = omega (arith, inside_long)
 
   module _ (l : List ℕ) (at : ℕ) (room : at + length (inside_of head entries items letters source) ≤ length l) where
-    pub front-room : at + (6 + length (seek_of head entries letters)) ≤ length l
-    front-room = omega (arith, inside_long)
+    pub front_room : at + (6 + length (seek_of head entries letters)) ≤ length l
+    front_room = omega (arith, inside_long)
 
-    pub body-room : (m : List ℕ) (sequence : ℕ) → length m ≡ length l → sequence ≡ at + (6 + length (seek_of head entries letters))
+    pub body_room : (m : List ℕ) (sequence : ℕ) → length m ≡ length l → sequence ≡ at + (6 + length (seek_of head entries letters))
         → sequence + 8 + length (list_bytes (items_given Score source items)) ≤ length m
-    body-room m sequence same e = omega (arith, inside_long)
+    body_room m sequence same e = omega (arith, inside_long)
 
   module _ (at sequence : ℕ) (behind : sequence ≡ at + (6 + length (seek_of head entries letters))) where
-    pub inside-next : (n : ℕ) → n ≡ sequence + length (chunk_bytes Mtsq (list_bytes (items_given Score source items)))
+    pub inside_next : (n : ℕ) → n ≡ sequence + length (chunk_bytes Mtsq (list_bytes (items_given Score source items)))
         → n ≡ at + length (inside_of head entries items letters source)
-    inside-next n e = omega (arith, inside_long, chunk_long Mtsq (list_bytes (items_given Score source items)))
+    inside_next n e = omega (arith, inside_long, chunk_long Mtsq (list_bytes (items_given Score source items)))
 
-    pub inside-stored : (l one two : List ℕ) → one ≡ sets l at (part head 1 6 ++ seek_of head entries letters)
+    pub inside_stored : (l one two : List ℕ) → one ≡ sets l at (part head 1 6 ++ seek_of head entries letters)
         → two ≡ sets one sequence (chunk_bytes Mtsq (list_bytes (items_given Score source items)))
         → two ≡ sets l at (inside_of head entries items letters source)
     unfolding inside_of
-    inside-stored l one two a b =
+    inside_stored l one two a b =
         let front = part head 1 6 ++ seek_of head entries letters in
         let p : sequence ≡ at + length front = omega (arith, six head entries letters seven, length-append (part head 1 6) (seek_of head entries letters)) in
         rw (b, a, p) (sets_append l at front _)
 
-pub ruleset insides = (track_items, track_entries, front-few, body-few, front-room, body-room, inside-next, inside-stored)
+pub ruleset insides = (track_items, track_entries, front_few, body_few, front_room, body_room, inside_next, inside_stored)

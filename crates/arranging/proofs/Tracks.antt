@@ -44,11 +44,11 @@ module _ (numbers bytes : List ℕ) where
       record { inside = omega arith; within = within; turns = length numbers; enough = omega arith; is = ap (given_from (length numbers) numbers) e }
 
   module _ (p q : ℕ) (left : List Given) (l : Left numbers bytes p q left) where
-    pub left-no-numbers : length numbers - p < 4 → left ≡ []
-    left-no-numbers h = sym l.is ∙ no_fuel l.turns p q h
+    pub left_no_numbers : length numbers - p < 4 → left ≡ []
+    left_no_numbers h = sym l.is ∙ no_fuel l.turns p q h
 
-    pub left-no-bytes : length bytes - q < 7 → left ≡ []
-    left-no-bytes h = sym l.is ∙ no_bytes l.turns p q h
+    pub left_no_bytes : length bytes - q < 7 → left ≡ []
+    left_no_bytes h = sym l.is ∙ no_bytes l.turns p q h
 
     -- one, and those behind it
     module _ (here : 4 ≤ length numbers - p) (there : 7 ≤ length bytes - q) (r : Stretches) (apart : Apart numbers bytes p q r) where
@@ -73,8 +73,8 @@ module _ (numbers bytes : List ℕ) where
             },
           )
 
-      pub left-next : (rest : List Given) × (left ≡ given_at numbers bytes p q ∷ rest) × Left numbers bytes r.numbers r.bytes rest
-      left-next = split l.turns l.enough l.is
+      pub left_next : (rest : List Given) × (left ≡ given_at numbers bytes p q ∷ rest) × Left numbers bytes r.numbers r.bytes rest
+      left_next = split l.turns l.enough l.is
 
     -- by how many are left
     pub left_over : length left ≡ 0 → left ≡ []
@@ -87,12 +87,12 @@ module _ (numbers bytes : List ℕ) where
     some : 0 < length left → left ≡ [] → ⊥
     some h e = let none : length left ≡ 0 = ap length e in omega arith
 
-    pub left-numbers : 0 < length left → p + 4 ≤ length numbers
-    left-numbers h =
+    pub left_numbers : 0 < length left → p + 4 ≤ length numbers
+    left_numbers h =
         let inside = l.inside in
-        elim (dec_lt (length numbers - p) 4) [ yes few ↦ absurd (some h (left-no-numbers few)) | no few ↦ omega arith ]
+        elim (dec_lt (length numbers - p) 4) [ yes few ↦ absurd (some h (left_no_numbers few)) | no few ↦ omega arith ]
 
-    pub left-bytes : 0 < length left → q + 7 ≤ length bytes
-    left-bytes h =
+    pub left_bytes : 0 < length left → q + 7 ≤ length bytes
+    left_bytes h =
         let inside = l.within in
-        elim (dec_lt (length bytes - q) 7) [ yes few ↦ absurd (some h (left-no-bytes few)) | no few ↦ omega arith ]
+        elim (dec_lt (length bytes - q) 7) [ yes few ↦ absurd (some h (left_no_bytes few)) | no few ↦ omega arith ]

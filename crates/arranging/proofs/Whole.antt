@@ -29,55 +29,55 @@ module _ (bytes tracks : List ℕ) (long : 5 ≤ length bytes) where
   five : length contents ≡ 5
   five = length-take 5 bytes ∙ omega arith
 
-  abbrev fileHead : List ℕ
-  fileHead = number_bytes 4 MMMD ++ number_bytes 4 (length tracks + 15)
+  abbrev file_head : List ℕ
+  file_head = number_bytes 4 MMMD ++ number_bytes 4 (length tracks + 15)
 
-  abbrev contentsHead : List ℕ
-  contentsHead = number_bytes 4 CNTI ++ number_bytes 4 5
+  abbrev contents_head : List ℕ
+  contents_head = number_bytes 4 CNTI ++ number_bytes 4 5
 
   head_long : (id size : ℕ) → length (number_bytes 4 id ++ number_bytes 4 size) ≡ 8
   head_long id size = length-append (number_bytes 4 id) (number_bytes 4 size) ∙ omega (arith, number_bytes_length 4 id, number_bytes_length 4 size)
 
-  body_long : length (contentsHead ++ contents ++ tracks) + 2 ≡ length tracks + 15
+  body_long : length (contents_head ++ contents ++ tracks) + 2 ≡ length tracks + 15
   body_long =
-      let a = length-append (contentsHead ++ contents) tracks in
-      let b = length-append contentsHead contents in
+      let a = length-append (contents_head ++ contents) tracks in
+      let b = length-append contents_head contents in
       omega (arith, a, b, head_long CNTI 5, five)
 
-  bare_is : bare_bytes contents tracks ≡ fileHead ++ (contentsHead ++ (contents ++ tracks))
+  bare_is : bare_bytes contents tracks ≡ file_head ++ (contents_head ++ (contents ++ tracks))
   unfolding bare_bytes chunk_bytes
-  bare_is = rw (five, body_long) (ap (λ (b : List ℕ). fileHead ++ b) (append_assoc contentsHead contents tracks))
+  bare_is = rw (five, body_long) (ap (λ (b : List ℕ). file_head ++ b) (append_assoc contents_head contents tracks))
 
   pub bare_length : length (bare_bytes contents tracks) ≡ 21 + length tracks
   bare_length =
-      let a = length-append fileHead (contentsHead ++ (contents ++ tracks)) in
-      let b = length-append contentsHead (contents ++ tracks) in
+      let a = length-append file_head (contents_head ++ (contents ++ tracks)) in
+      let b = length-append contents_head (contents ++ tracks) in
       let c = length-append contents tracks in
       ap length bare_is ∙ omega (arith, a, b, c, head_long MMMD (length tracks + 15), head_long CNTI 5, five)
 
   -- stored one behind the other
   module _ (size : ℕ) (sized : size ≡ length tracks) where
-    pub bare-room : (l one : List ℕ) (from body at : ℕ) → from ≡ 0 + 8 → body ≡ from + 8 → at ≡ body + 5 → size + 23 ≤ length l → length one ≡ length l
+    pub bare_room : (l one : List ℕ) (from body at : ℕ) → from ≡ 0 + 8 → body ≡ from + 8 → at ≡ body + 5 → size + 23 ≤ length l → length one ≡ length l
         → at + length tracks ≤ length one
-    bare-room l one from body at e f g room same = omega arith
+    bare_room l one from body at e f g room same = omega arith
 
-    pub bare-few : size ≤ 65513 → length tracks ≤ 65536
-    bare-few h = omega arith
+    pub bare_few : size ≤ 65513 → length tracks ≤ 65536
+    bare_few h = omega arith
 
-    pub bare-next : (from body at end : ℕ) → from ≡ 0 + 8 → body ≡ from + 8 → at ≡ body + 5 → end ≡ at + length tracks → end ≡ 21 + size
-    bare-next from body at end e f g h = omega arith
+    pub bare_next : (from body at end : ℕ) → from ≡ 0 + 8 → body ≡ from + 8 → at ≡ body + 5 → end ≡ at + length tracks → end ≡ 21 + size
+    bare_next from body at end e f g h = omega arith
 
-    pub bare-stored : (l one two three four : List ℕ) (from body at : ℕ) → from ≡ 0 + 8 → body ≡ from + 8 → at ≡ body + 5
+    pub bare_stored : (l one two three four : List ℕ) (from body at : ℕ) → from ≡ 0 + 8 → body ≡ from + 8 → at ≡ body + 5
         → one ≡ sets l 0 (number_bytes 4 MMMD ++ number_bytes 4 (size + 15)) → two ≡ sets one from (number_bytes 4 CNTI ++ number_bytes 4 5)
         → three ≡ sets two body (part bytes 0 5) → four ≡ sets three at tracks → four ≡ sets l 0 (bare_bytes contents tracks)
-    bare-stored l one two three four from body at e f g a b c d =
-        let p : from ≡ 0 + length fileHead = e ∙ ap (λ (n : ℕ). 0 + n) (sym (head_long MMMD (length tracks + 15))) in
-        let q : body ≡ from + length contentsHead = f ∙ ap (λ (n : ℕ). from + n) (sym (head_long CNTI 5)) in
+    bare_stored l one two three four from body at e f g a b c d =
+        let p : from ≡ 0 + length file_head = e ∙ ap (λ (n : ℕ). 0 + n) (sym (head_long MMMD (length tracks + 15))) in
+        let q : body ≡ from + length contents_head = f ∙ ap (λ (n : ℕ). from + n) (sym (head_long CNTI 5)) in
         let r : at ≡ body + length contents = g ∙ ap (λ (n : ℕ). body + n) (sym five) in
-        let first : one ≡ sets l 0 fileHead = a ∙ ap (λ (n : ℕ). sets l 0 (number_bytes 4 MMMD ++ number_bytes 4 (n + 15))) sized in
+        let first : one ≡ sets l 0 file_head = a ∙ ap (λ (n : ℕ). sets l 0 (number_bytes 4 MMMD ++ number_bytes 4 (n + 15))) sized in
         let last : four ≡ sets two body (contents ++ tracks) = rw (d, c, r) (sets_append two body contents tracks) in
-        let middle : four ≡ sets one from (contentsHead ++ (contents ++ tracks)) = last ∙ rw (b, q) (sets_append one from contentsHead (contents ++ tracks)) in
-        middle ∙ rw (first, p) (sets_append l 0 fileHead (contentsHead ++ (contents ++ tracks))) ∙ ap (sets l 0) (sym bare_is)
+        let middle : four ≡ sets one from (contents_head ++ (contents ++ tracks)) = last ∙ rw (b, q) (sets_append one from contents_head (contents ++ tracks)) in
+        middle ∙ rw (first, p) (sets_append l 0 file_head (contents_head ++ (contents ++ tracks))) ∙ ap (sets l 0) (sym bare_is)
 
   -- THE CHECK CODE behind it
   pub whole_length : length (whole_bytes contents tracks) ≡ 23 + length tracks
@@ -99,21 +99,21 @@ module _ (bytes tracks : List ℕ) (long : 5 ≤ length bytes) where
     pub code_inside : length one ≡ length l → end ≤ length one
     code_inside same = omega arith
 
-    pub code-room : (two : List ℕ) → length two ≡ length l → end + 2 ≤ length two
-    code-room two same = omega arith
+    pub code_room : (two : List ℕ) → length two ≡ length l → end + 2 ≤ length two
+    code_room two same = omega arith
 
-    pub whole-next : (n : ℕ) → n ≡ end + 2 → n ≡ 23 + size
-    whole-next n e = omega arith
+    pub whole_next : (n : ℕ) → n ≡ end + 2 → n ≡ 23 + size
+    whole_next n e = omega arith
 
-    pub whole-stored : (code : ℕ) (two : List ℕ) → code ≡ check_code (take end one) → two ≡ sets one end (number_bytes 2 code) → two ≡ sets l 0 (whole_bytes contents tracks)
+    pub whole_stored : (code : ℕ) (two : List ℕ) → code ≡ check_code (take end one) → two ≡ sets one end (number_bytes 2 code) → two ≡ sets l 0 (whole_bytes contents tracks)
     unfolding whole_bytes with_check_code
-    whole-stored code two c e =
+    whole_stored code two c e =
         let bare = bare_bytes contents tracks in
         let coded : code ≡ check_code bare = c ∙ ap check_code front in
         let place : end ≡ 0 + length bare = omega (arith, bare_length) in
         e ∙ rw (coded, stored, place) (sets_append l 0 bare (number_bytes 2 (check_code bare)))
 
-pub ruleset wholes = (bare-room, bare-few, bare-next, bare-stored, code_inside, code-room, whole-next, whole-stored)
+pub ruleset wholes = (bare_room, bare_few, bare_next, bare_stored, code_inside, code_room, whole_next, whole_stored)
 
 -- THE ANSWER, where all tracks can be written and take so many bytes
 module _ (numbers bytes : List ℕ) (long : 5 ≤ length bytes) (count size : ℕ) (counted : count ≡ length (given_in numbers bytes))
@@ -156,9 +156,9 @@ module _ (numbers bytes : List ℕ) (long : 5 ≤ length bytes) (count size : �
   no_room few small h =
       let e = exact small in
       let n = whole_length bytes tracks long in
-      let within-most : length (whole_bytes (take 5 bytes) tracks) ≤ 65536 = omega (arith, n) in
+      let within_most : length (whole_bytes (take 5 bytes) tracks) ≤ 65536 = omega (arith, n) in
       let past : length l < length (whole_bytes (take 5 bytes) tracks) = omega (arith, n) in
-      within few ∙ simp (le-ltb 65536 _ within-most, lt-ltb (length l) _ past)
+      within few ∙ simp (le-ltb 65536 _ within_most, lt-ltb (length l) _ past)
 
   pub many_answer : (z : Wrote) → 16 < count → z ≡ Refused 24 0 → z ≡ write_answer (sized_of numbers bytes (length l))
   many_answer z h e = e ∙ over_answer (too_many h)
@@ -179,32 +179,32 @@ module _ (numbers bytes : List ℕ) (long : 5 ≤ length bytes) (count size : �
   full_kept few small h = over_kept (no_room few small h)
 
   module _ (few : count ≤ 16) (small : size ≤ 65513) (room : size + 23 ≤ length l) where
-    pub whole-sized : size ≡ length (tracks_given_bytes (tracks_from 0 (given_in numbers bytes)))
-    whole-sized = exact small
+    pub whole_sized : size ≡ length (tracks_given_bytes (tracks_from 0 (given_in numbers bytes)))
+    whole_sized = exact small
 
-    is-fine : outcome ≡ fine (whole_bytes (take 5 bytes) tracks)
+    is_fine_lem : outcome ≡ fine (whole_bytes (take 5 bytes) tracks)
     unfolding within_room if◌then◌else◌ ◌or◌
-    is-fine =
+    is_fine_lem =
         let e = exact small in
         let n = whole_length bytes tracks long in
-        let within-most : length (whole_bytes (take 5 bytes) tracks) ≤ 65536 = omega (arith, n) in
+        let within_most : length (whole_bytes (take 5 bytes) tracks) ≤ 65536 = omega (arith, n) in
         let fits : length (whole_bytes (take 5 bytes) tracks) ≤ length l = omega (arith, n) in
-        within few ∙ simp (le-ltb 65536 _ within-most, le-ltb (length l) _ fits)
+        within few ∙ simp (le-ltb 65536 _ within_most, le-ltb (length l) _ fits)
 
-    pub whole-answer : (n : ℕ) → n ≡ 23 + size → Bytes n ≡ write_answer (sized_of numbers bytes (length l))
+    pub whole_answer : (n : ℕ) → n ≡ 23 + size → Bytes n ≡ write_answer (sized_of numbers bytes (length l))
     unfolding write_answer
-    whole-answer n e =
-        let long-so : n ≡ length (whole_bytes (take 5 bytes) tracks) = e ∙ ap (λ (k : ℕ). 23 + k) (exact small) ∙ sym (whole_length bytes tracks long) in
-        rw is-fine (ap Bytes long-so)
+    whole_answer n e =
+        let long_so : n ≡ length (whole_bytes (take 5 bytes) tracks) = e ∙ ap (λ (k : ℕ). 23 + k) (exact small) ∙ sym (whole_length bytes tracks long) in
+        rw is_fine_lem (ap Bytes long_so)
 
-    pub whole-written : (m : List ℕ) → m ≡ sets l 0 (whole_bytes (take 5 bytes) (tracks_given_bytes (tracks_from 0 (given_in numbers bytes))))
+    pub whole_written : (m : List ℕ) → m ≡ sets l 0 (whole_bytes (take 5 bytes) (tracks_given_bytes (tracks_from 0 (given_in numbers bytes))))
         → m ≡ write_room l (sized_of numbers bytes (length l))
     unfolding write_room memory_after
-    whole-written m e =
+    whole_written m e =
         let s = exact small in
         let n = whole_length bytes tracks long in
         let fits : length (whole_bytes (take 5 bytes) tracks) ≤ length l = omega (arith, n) in
-        rw is-fine (e ∙ front_stored l (whole_bytes (take 5 bytes) tracks) fits)
+        rw is_fine_lem (e ∙ front_stored l (whole_bytes (take 5 bytes) tracks) fits)
 
 pub ruleset sized_answers = (
   many_answer,
@@ -213,7 +213,7 @@ pub ruleset sized_answers = (
   long_kept,
   full_answer,
   full_kept,
-  whole-sized,
-  whole-answer,
-  whole-written,
+  whole_sized,
+  whole_answer,
+  whole_written,
 )

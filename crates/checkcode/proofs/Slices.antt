@@ -53,10 +53,10 @@ unfolding remainder_from
 apart r [] h k = sym (xor_zero_r r)
 apart r (byte ∷ bytes) h k =
     ap (λ (x : ℕ). remainder_from x bytes) two
-    ∙ apart (bit_xor rest own) bytes (xor_lt 16 rest own rest-small own-small) k.1
-    ∙ ap (λ (x : ℕ). bit_xor x (remainder_from 0 bytes)) (zeros_linear (length bytes) rest own rest-small own-small)
+    ∙ apart (bit_xor rest own) bytes (xor_lt 16 rest own rest_small own_small) k.1
+    ∙ ap (λ (x : ℕ). bit_xor x (remainder_from 0 bytes)) (zeros_linear (length bytes) rest own rest_small own_small)
     ∙ xor_assoc (remainder_from rest (zeros (length bytes))) (remainder_from own (zeros (length bytes))) (remainder_from 0 bytes)
-    ∙ ap (bit_xor (remainder_from rest (zeros (length bytes)))) (sym (apart own bytes own-small k.1))
+    ∙ ap (bit_xor (remainder_from rest (zeros (length bytes)))) (sym (apart own bytes own_small k.1))
   where
     rest : ℕ
     rest = byte_step r 0
@@ -64,11 +64,11 @@ apart r (byte ∷ bytes) h k =
     own : ℕ
     own = byte_step 0 byte
 
-    rest-small : rest < 0x10000
-    rest-small = byte_small r 0 h (omega arith)
+    rest_small : rest < 0x10000
+    rest_small = byte_small r 0 h (omega arith)
 
-    own-small : own < 0x10000
-    own-small = byte_small 0 byte (omega arith) k.0
+    own_small : own < 0x10000
+    own_small = byte_small 0 byte (omega arith) k.0
 
     two : byte_step r byte ≡ bit_xor rest own
     two = ap (λ (x : ℕ). byte_step x byte) (sym (xor_zero_r r)) ∙ byte_linear r 0 0 byte h (omega arith) (omega arith) k.0

@@ -45,8 +45,8 @@ module _ (phrases : Bool) (letters : List ℕ) where
   chunk_size (row ∷ rows) (entry ∷ entries) are = omega (arith, ap length (rows_bytes_lem (row ∷ rows) (entry ∷ entries) are))
 
   module _ (numbers : List ℕ) where
-    pub given-chunk-size : is_fine (entries_given phrases letters numbers) ≡ true
+    pub given_chunk_size : is_fine (entries_given phrases letters numbers) ≡ true
         → length (seek_chunk (point_width phrases) (entries_in (found (entries_given phrases letters numbers)))) ≡ seek_size phrases letters (rows_in numbers)
-    given-chunk-size h =
+    given_chunk_size h =
         let g = given_entries phrases letters numbers h in
         ap (λ (entries : List Entry). length (seek_chunk (point_width phrases) entries)) g.only ∙ chunk_size (rows_in numbers) g.entries g.are

@@ -15,7 +15,7 @@ use Rattle.model.specs.SeekBytes.{further_bytes, seek_bytes, entries_given}
 use Rattle.model.specs.Arrangement.{seek_chunk}
 use Rattle.entries.specs.declared.row.Row.{Row}
 use Rattle.entries.specs.Rows.{row_at, rows_in, rows_bytes, entries_in}
-use Rattle.entries.proofs.RowsLeft.{left, left_all, left-next, left_over}
+use Rattle.entries.proofs.RowsLeft.{left, left_all, left_next, left_over}
 use Rattle.entries.proofs.GivenEntries.{RowsAre, given_entries}
 use Rattle.entries.proofs.ChunkOf.{rows_bytes_lem}
 use Rattle.entries.proofs.Overlaps.{header_over}
@@ -54,59 +54,59 @@ module _ (phrases : Bool) (letters numbers : List ℕ) (given : is_fine (entries
         let e : rows_in numbers ≡ [] = sym (left_all numbers (length numbers / 4) refl) ∙ left_over numbers (length numbers / 4) 0 (omega arith) in
         ap (seek_chunk (point_width phrases)) g.only ∙ no_chunk phrases letters (rows_in numbers) g.entries g.are e
 
-    pub none-next : (at : ℕ) → at ≡ at + length (seek_chunk (point_width phrases) (entries_in (found (entries_given phrases letters numbers))))
-    none-next at = omega (arith, ap length empty)
+    pub none_next : (at : ℕ) → at ≡ at + length (seek_chunk (point_width phrases) (entries_in (found (entries_given phrases letters numbers))))
+    none_next at = omega (arith, ap length empty)
 
-    pub none-wrote : (l : List ℕ) (at : ℕ) → l ≡ sets l at (seek_chunk (point_width phrases) (entries_in (found (entries_given phrases letters numbers))))
-    none-wrote l at = ap (sets l at) (sym empty)
+    pub none_wrote : (l : List ℕ) (at : ℕ) → l ≡ sets l at (seek_chunk (point_width phrases) (entries_in (found (entries_given phrases letters numbers))))
+    none_wrote l at = ap (sets l at) (sym empty)
 
   module _ (some : length numbers / 4 ≡ 0 → ⊥) where
-    is-chunk : ChunkIs rows chunk
-    is-chunk =
+    is_chunk : ChunkIs rows chunk
+    is_chunk =
         let g = given_entries phrases letters numbers given in
         let count = length numbers / 4 in
-        let e : rows_in numbers ≡ row_at numbers 0 ∷ left numbers count 1 = sym (left_all numbers count refl) ∙ left-next numbers count 0 (omega arith) in
+        let e : rows_in numbers ≡ row_at numbers 0 ∷ left numbers count 1 = sym (left_all numbers count refl) ∙ left_next numbers count 0 (omega arith) in
         let c = a_chunk phrases letters (rows_in numbers) g.entries g.are (row_at numbers 0) (left numbers count 1) e in
         (c.0, c.1, ap (seek_chunk (point_width phrases)) g.only ∙ c.2)
 
-    rows_long : length rows ≡ 1 + length is-chunk.0
-    rows_long = ap length is-chunk.1 ∙ omega arith
+    rows_long : length rows ≡ 1 + length is_chunk.0
+    rows_long = ap length is_chunk.1 ∙ omega arith
 
-    chunk_long : length chunk ≡ 8 + length is-chunk.0
+    chunk_long : length chunk ≡ 8 + length is_chunk.0
     unfolding number_bytes
-    chunk_long = ap length is-chunk.2 ∙ omega arith
+    chunk_long = ap length is_chunk.2 ∙ omega arith
 
     pub rows_room : (l : List ℕ) (at : ℕ) → at + length (seek_chunk (point_width phrases) (entries_in (found (entries_given phrases letters numbers)))) ≤ length l
         → at + 7 + length (rows_bytes phrases letters (rows_in numbers)) ≤ length l
     rows_room l at room = omega (arith, rows_long, chunk_long)
 
     module _ (at end : ℕ) (ends : end ≡ at + 7 + length (rows_bytes phrases letters (rows_in numbers))) where
-      body-size : end - at - 8 ≡ length is-chunk.0
-      body-size = omega (arith, rows_long)
+      body_size : end - at - 8 ≡ length is_chunk.0
+      body_size = omega (arith, rows_long)
 
-      pub header-under : 8 ≤ end - at
-      header-under = omega (arith, rows_long)
+      pub header_under : 8 ≤ end - at
+      header_under = omega (arith, rows_long)
 
-      pub header-room : (l k : List ℕ) → at + length (seek_chunk (point_width phrases) (entries_in (found (entries_given phrases letters numbers)))) ≤ length l → length k ≡ length l
+      pub header_room : (l k : List ℕ) → at + length (seek_chunk (point_width phrases) (entries_in (found (entries_given phrases letters numbers)))) ≤ length l → length k ≡ length l
           → at + 8 ≤ length k
-      header-room l k room kept = omega (arith, chunk_long)
+      header_room l k room kept = omega (arith, chunk_long)
 
-      pub header-small : length (seek_chunk (point_width phrases) (entries_in (found (entries_given phrases letters numbers)))) ≤ 65536 → end - at - 8 ≤ 65536
-      header-small small = omega (arith, body-size, chunk_long)
+      pub header_small : length (seek_chunk (point_width phrases) (entries_in (found (entries_given phrases letters numbers)))) ≤ 65536 → end - at - 8 ≤ 65536
+      header_small small = omega (arith, body_size, chunk_long)
 
       pub chunk_next : end ≡ at + length (seek_chunk (point_width phrases) (entries_in (found (entries_given phrases letters numbers))))
       chunk_next = omega (arith, rows_long, chunk_long)
 
-      pub chunk-wrote : (l k m : List ℕ) → k ≡ sets l (at + 7) (rows_bytes phrases letters (rows_in numbers)) → m ≡ sets k at (number_bytes 4 MspI ++ number_bytes 4 (end - at - 8))
+      pub chunk_wrote : (l k m : List ℕ) → k ≡ sets l (at + 7) (rows_bytes phrases letters (rows_in numbers)) → m ≡ sets k at (number_bytes 4 MspI ++ number_bytes 4 (end - at - 8))
           → m ≡ sets l at (seek_chunk (point_width phrases) (entries_in (found (entries_given phrases letters numbers))))
       unfolding number_bytes
-      chunk-wrote l k m e h =
-          let body = is-chunk.0 in
+      chunk_wrote l k m e h =
+          let body = is_chunk.0 in
           let header = number_bytes 4 MspI ++ number_bytes 4 (length body) in
           h
-          ∙ ap (λ (n : ℕ). sets k at (number_bytes 4 MspI ++ number_bytes 4 n)) body-size
-          ∙ ap (λ (x : List ℕ). sets x at header) (e ∙ ap (sets l (at + 7)) is-chunk.1)
+          ∙ ap (λ (n : ℕ). sets k at (number_bytes 4 MspI ++ number_bytes 4 n)) body_size
+          ∙ ap (λ (x : List ℕ). sets x at header) (e ∙ ap (sets l (at + 7)) is_chunk.1)
           ∙ header_over l header body at 0x2C refl
-          ∙ ap (sets l at) (sym is-chunk.2)
+          ∙ ap (sets l at) (sym is_chunk.2)
 
-pub ruleset chunk_stores = (none-next, none-wrote, rows_room, header-under, header-room, header-small, chunk_next, chunk-wrote)
+pub ruleset chunk_stores = (none_next, none_wrote, rows_room, header_under, header_room, header_small, chunk_next, chunk_wrote)

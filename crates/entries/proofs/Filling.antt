@@ -9,7 +9,7 @@ use native.Mathlib.Omega.{arith}
 use Rattle.model.proofs.Stores.{sets_append}
 use Rattle.entries.specs.declared.row.Row.{Row}
 use Rattle.entries.specs.Rows.{row_at, rows_in, row_bytes, rows_bytes}
-use Rattle.entries.proofs.RowsLeft.{left, left_all, left-next, left_over}
+use Rattle.entries.proofs.RowsLeft.{left, left_all, left_next, left_over}
 
 -- the bytes of the rows that are left
 abbrev bytes_left : Bool → List ℕ → List ℕ → ℕ → ℕ → List ℕ
@@ -38,8 +38,8 @@ module _ (phrases : Bool) (letters numbers : List ℕ) (count : ℕ) (counted : 
       unfolding rows_bytes
       none_left = ap (rows_bytes phrases letters) (left_over numbers count i past)
 
-      pub filled-size : at ≡ start + length (rows_bytes phrases letters (rows_in numbers))
-      filled-size = omega (arith, r.size, ap length none_left)
+      pub filled_size : at ≡ start + length (rows_bytes phrases letters (rows_in numbers))
+      filled_size = omega (arith, r.size, ap length none_left)
 
       pub filled : out ≡ sets l start (rows_bytes phrases letters (rows_in numbers))
       filled = ap (sets out at) (sym none_left) ∙ r.whole
@@ -48,14 +48,14 @@ module _ (phrases : Bool) (letters numbers : List ℕ) (count : ℕ) (counted : 
       splits : bytes_left phrases letters numbers count i ≡ row_bytes phrases letters row ++ bytes_left phrases letters numbers count (i + 1)
       unfolding rows_bytes
       splits =
-          ap (rows_bytes phrases letters) (left-next numbers count i here)
+          ap (rows_bytes phrases letters) (left_next numbers count i here)
           ∙ ap (λ (a : Row). row_bytes phrases letters a ++ bytes_left phrases letters numbers count (i + 1)) (sym is)
 
       both : length (bytes_left phrases letters numbers count i) ≡ length (row_bytes phrases letters row) + length (bytes_left phrases letters numbers count (i + 1))
       both = ap length splits ∙ length-append (row_bytes phrases letters row) (bytes_left phrases letters numbers count (i + 1))
 
-      pub fill-room : at + length (row_bytes phrases letters row) ≤ length out
-      fill-room = omega (arith, r.room, both)
+      pub fill_room : at + length (row_bytes phrases letters row) ≤ length out
+      fill_room = omega (arith, r.room, both)
 
       pub fill_more : (m : List ℕ) (next : ℕ) → next ≡ at + length (row_bytes phrases letters row) → m ≡ sets out at (row_bytes phrases letters row) → length m ≡ length out
           → Filling phrases letters numbers count start l m next (i + 1)
@@ -70,4 +70,4 @@ module _ (phrases : Bool) (letters numbers : List ℕ) (count : ℕ) (counted : 
             whole = stored ∙ r.whole;
           }
 
-pub ruleset fills = (fill_starts, fill-room, fill_more, filled-size, filled)
+pub ruleset fills = (fill_starts, fill_room, fill_more, filled_size, filled)

@@ -15,9 +15,9 @@ use Rattle.model.proofs.Outcomes.{fine_some}
 use Rattle.seek.proofs.Ordering.{slot, tagged, ranked, Remembered, remember, none_flagged, in_order_passes, in_order_twice, in_order_late}
 use Rattle.entries.specs.declared.row.Row.{Row}
 use Rattle.entries.specs.Rows.{row_at, row_given, slot_of}
-use Rattle.entries.proofs.RowsLeft.{left, left_all, left-next, left_over}
+use Rattle.entries.proofs.RowsLeft.{left, left_all, left_next, left_over}
 use Rattle.entries.proofs.RowIs.{RowIs, row_is, row_known, row_rank, row_slot}
-use Rattle.entries.proofs.RowsGiven.{ahead, rows_given, size_of, formed, given_formed, formed_none, formed_fault, formed-stops, formed-next}
+use Rattle.entries.proofs.RowsGiven.{ahead, rows_given, size_of, formed, given_formed, formed_none, formed_fault, formed_stops, formed_next}
 
 pub record Forming (phrases : Bool) (letters numbers : List ℕ) (count : ℕ) (seen : List Bool) (highest i : ℕ) : Type 0 where
   pub place : ℕ
@@ -53,70 +53,70 @@ module _ (phrases : Bool) (letters numbers : List ℕ) (count : ℕ) where
       turned one e =
           ap (λ (o : Checked Entry). formed phrases r.place r.before (ahead o (rows_given phrases letters (left numbers count (i + 1)))))
           (sym e ∙ ap (row_given phrases letters) is)
-          ∙ ap (λ (rows : List Row). formed phrases r.place r.before (rows_given phrases letters rows)) (sym (left-next numbers count i here))
+          ∙ ap (λ (rows : List Row). formed phrases r.place r.before (rows_given phrases letters rows)) (sym (left_next numbers count i here))
           ∙ r.same
 
-      pub form-faulty : is_fine (row_given phrases letters row) ≡ false → false ≡ is_fine (entries_given phrases letters numbers)
+      pub form_faulty : is_fine (row_given phrases letters row) ≡ false → false ≡ is_fine (entries_given phrases letters numbers)
       unfolding is_fine
-      form-faulty h = go (row_given phrases letters row) refl
+      form_faulty h = go (row_given phrases letters row) refl
         where
           go : (one : Checked Entry) → row_given phrases letters row ≡ one → false ≡ is_fine (entries_given phrases letters numbers)
           go (fine entry) e = absurd (false≢true (sym h ∙ ap is_fine e))
           go (refused number place) e = sym (formed_fault phrases r.place r.before number place _) ∙ turned (refused number place) e
 
       module _ (fits : is_fine (row_given phrases letters row) ≡ true) where
-        the-entry : Entry
-        the-entry = (fine_some (row_given phrases letters row) fits).0
+        the_entry : Entry
+        the_entry = (fine_some (row_given phrases letters row) fits).0
 
-        given : row_given phrases letters row ≡ fine the-entry
-        unfolding the-entry
+        given : row_given phrases letters row ≡ fine the_entry
+        unfolding the_entry
         given = (fine_some (row_given phrases letters row) fits).1
 
-        entry-is : RowIs letters row the-entry
-        entry-is = row_is phrases letters row the-entry given
+        entry_is : RowIs letters row the_entry
+        entry_is = row_is phrases letters row the_entry given
 
-        abbrev now-placed : Placed Entry
-        now-placed = record { place = r.place; what = the-entry }
+        abbrev now_placed : Placed Entry
+        now_placed = record { place = r.place; what = the_entry }
 
-        ranked-here : ranked r.before (rank the-entry) ≡ (row.kind <? highest)
-        ranked-here = r.remembered.ranks (rank the-entry) ∙ ap (λ (n : ℕ). n <? highest) (row_rank letters row the-entry entry-is)
+        ranked_here : ranked r.before (rank the_entry) ≡ (row.kind <? highest)
+        ranked_here = r.remembered.ranks (rank the_entry) ∙ ap (λ (n : ℕ). n <? highest) (row_rank letters row the_entry entry_is)
 
-        pub form-late : row.kind < highest → false ≡ is_fine (entries_given phrases letters numbers)
-        form-late h =
-            sym (formed-stops phrases r.place r.before the-entry 12 r.place _
-            (in_order_late r.before now-placed (ranked-here ∙ lt-ltb row.kind highest h)))
-            ∙ turned (fine the-entry) given
+        pub form_late : row.kind < highest → false ≡ is_fine (entries_given phrases letters numbers)
+        form_late h =
+            sym (formed_stops phrases r.place r.before the_entry 12 r.place _
+            (in_order_late r.before now_placed (ranked_here ∙ lt-ltb row.kind highest h)))
+            ∙ turned (fine the_entry) given
 
         module _ (slotted : ℕ) (in-slot : slotted ≡ slot_of row) where
-          slot-here : slot the-entry ≡ slotted
-          slot-here = row_slot letters row the-entry entry-is ∙ sym in-slot
+          slot_here : slot the_entry ≡ slotted
+          slot_here = row_slot letters row the_entry entry_is ∙ sym in-slot
 
-          tagged-here : tagged r.before the-entry ≡ get_or seen slotted false
-          tagged-here =
-              r.remembered.tags the-entry (row_known letters row the-entry entry-is) ∙ ap (λ (n : ℕ). get_or seen n false) slot-here
+          tagged_here : tagged r.before the_entry ≡ get_or seen slotted false
+          tagged_here =
+              r.remembered.tags the_entry (row_known letters row the_entry entry_is) ∙ ap (λ (n : ℕ). get_or seen n false) slot_here
 
-          pub form-twice : get_or seen slotted false ≡ true → false ≡ is_fine (entries_given phrases letters numbers)
-          form-twice h =
-              sym (formed-stops phrases r.place r.before the-entry 12 r.place _ (in_order_twice r.before now-placed (tagged-here ∙ h)))
-              ∙ turned (fine the-entry) given
+          pub form_twice : get_or seen slotted false ≡ true → false ≡ is_fine (entries_given phrases letters numbers)
+          form_twice h =
+              sym (formed_stops phrases r.place r.before the_entry 12 r.place _ (in_order_twice r.before now_placed (tagged_here ∙ h)))
+              ∙ turned (fine the_entry) given
 
-          pub form-goes-on : slotted < 256 → get_or seen slotted false ≡ false → highest ≤ row.kind
+          pub form_goes_on : slotted < 256 → get_or seen slotted false ≡ false → highest ≤ row.kind
               → Forming phrases letters numbers count (set seen slotted true) row.kind (i + 1)
-          form-goes-on small first up =
-              let rank-here = row_rank letters row the-entry entry-is in
-              let slots = slot-here in
+          form_goes_on small first up =
+              let rank_here = row_rank letters row the_entry entry_is in
+              let slots = slot_here in
               record {
-                place = r.place + size_of phrases the-entry;
-                before = now-placed ∷ r.before;
+                place = r.place + size_of phrases the_entry;
+                before = now_placed ∷ r.before;
                 long = length-set seen slotted true ∙ r.long;
                 remembered =
-                    subst (λ (k : ℕ). Remembered (now-placed ∷ r.before) (set seen k true) row.kind) slots
-                    (subst (Remembered (now-placed ∷ r.before) (set seen (slot the-entry) true)) rank-here
-                    (remember r.before seen highest r.remembered now-placed (row_known letters row the-entry entry-is) (omega (arith, r.long)) (omega arith)));
+                    subst (λ (k : ℕ). Remembered (now_placed ∷ r.before) (set seen k true) row.kind) slots
+                    (subst (Remembered (now_placed ∷ r.before) (set seen (slot the_entry) true)) rank_here
+                    (remember r.before seen highest r.remembered now_placed (row_known letters row the_entry entry_is) (omega (arith, r.long)) (omega arith)));
                 same =
-                    sym (formed-next phrases r.place r.before the-entry _
-                    (in_order_passes r.before now-placed (tagged-here ∙ first) (ranked-here ∙ le-ltb row.kind highest up)))
-                    ∙ turned (fine the-entry) given;
+                    sym (formed_next phrases r.place r.before the_entry _
+                    (in_order_passes r.before now_placed (tagged_here ∙ first) (ranked_here ∙ le-ltb row.kind highest up)))
+                    ∙ turned (fine the_entry) given;
               }
 
-pub ruleset forming = (form_starts, form_ends, form-faulty, form-late, form-twice, form-goes-on, flag_on, flag_off)
+pub ruleset forming = (form_starts, form_ends, form_faulty, form_late, form_twice, form_goes_on, flag_on, flag_off)

@@ -14,7 +14,7 @@ use Rattle.entries.specs.declared.row.Row.{Row}
 use Rattle.entries.specs.Places.{is_place, Stands, Front, AllGiven, Came}
 use Rattle.entries.specs.Rows.{row_at, rows_in}
 use Rattle.entries.specs.Rules.{Says, is_point, row_holds, rows_hold}
-use Rattle.entries.proofs.RowsLeft.{left, left_all, left-next, left_over}
+use Rattle.entries.proofs.RowsLeft.{left, left_all, left_next, left_over}
 use Rattle.entries.proofs.Reaching.{front_none}
 
 pub and_true : (a b : Bool) → b ≡ true → (a and b) ≡ a
@@ -59,16 +59,16 @@ module _ (source items : List ℕ) where
 
   module _ (first : Cursor) (from to : ℕ) (starts : Bool) (came : Came source items first from)
       (answers : (first.place < from → is_place items from ≡ false) → starts ≡ is_place items from) where
-    pub says-unstarted : not starts ≡ true → Says source items (record { holds = false; front = first }) (is_span (is_place items) from to)
+    pub says_unstarted : not starts ≡ true → Says source items (record { holds = false; front = first }) (is_span (is_place items) from to)
     unfolding is_span
-    says-unstarted off =
+    says_unstarted off =
         record { front = came.front; so = λ all. sym (first_false _ _ (flag_off (met first from starts came answers all) off)) }
 
-    pub says-span : (last : Cursor) (ends holds : Bool) → not starts ≡ false → Came source items last to
+    pub says_span : (last : Cursor) (ends holds : Bool) → not starts ≡ false → Came source items last to
         → ((last.place < to → is_place items to ≡ false) → ends ≡ is_place items to) → holds ≡ (ends and not (to <? from))
         → Says source items (record { holds = holds; front = last }) (is_span (is_place items) from to)
     unfolding is_span ◌and◌
-    says-span last ends holds on later told is =
+    says_span last ends holds on later told is =
         record {
           front = later.front;
           so = λ all.
@@ -77,7 +77,7 @@ module _ (source items : List ℕ) where
               is ∙ ap (λ (t : Bool). t and not (to <? from)) b ∙ sym (ap (λ (t : Bool). t and is_place items to and not (to <? from)) a);
         }
 
-pub ruleset said_places = (came_stands, came_front, says_point, says-unstarted, says-span)
+pub ruleset said_places = (came_stands, came_front, says_point, says_unstarted, says_span)
 
 -- ROWS
 module _ (phrases : Bool) (source items : List ℕ) (started listed : ℕ) (row : Row) where
@@ -96,23 +96,23 @@ module _ (phrases : Bool) (source items : List ℕ) (started listed : ℕ) (row 
   says_phrase judged k says = record { front = says.front; so = λ all. simp k (says.so all) }
 
   module _ (listing : row.kind ≡ 3 → ⊥) (phrase : row.kind ≡ 2 → ⊥) (early : Bool) (is : early ≡ ((row.kind ≡? 1) and (row.from <? started))) where
-    pub says-early : (cursor : Cursor) → Front source items cursor → early ≡ true
+    pub says_early : (cursor : Cursor) → Front source items cursor → early ≡ true
         → Says source items (record { holds = false; front = cursor }) (row_holds phrases items started listed row)
     unfolding row_holds if◌then◌else◌
-    says-early cursor front h = says_plain _ front (let e = sym is ∙ h in simp (ne_eqb, e))
+    says_early cursor front h = says_plain _ front (let e = sym is ∙ h in simp (ne_eqb, e))
 
     module _ (late : early ≡ false) where
-      pub says-position : (cursor : Cursor) (holds : Bool) → Front source items cursor → phrases ≡ true → holds ≡ (row.from ≤? listed)
+      pub says_position : (cursor : Cursor) (holds : Bool) → Front source items cursor → phrases ≡ true → holds ≡ (row.from ≤? listed)
           → Says source items (record { holds = holds; front = cursor }) (row_holds phrases items started listed row)
       unfolding row_holds is_point if◌then◌else◌
-      says-position cursor holds front p h = says_plain _ front (let e = sym is ∙ late in simp (ne_eqb, e, p) h)
+      says_position cursor holds front p h = says_plain _ front (let e = sym is ∙ late in simp (ne_eqb, e, p) h)
 
-      pub says-address : (judged : Judged) → phrases ≡ false → Says source items judged (is_place items row.from)
+      pub says_address : (judged : Judged) → phrases ≡ false → Says source items judged (is_place items row.from)
           → Says source items judged (row_holds phrases items started listed row)
       unfolding row_holds is_point if◌then◌else◌
-      says-address judged p says = record { front = says.front; so = λ all. let e = sym is ∙ late in simp (ne_eqb, e, p) (says.so all) }
+      says_address judged p says = record { front = says.front; so = λ all. let e = sym is ∙ late in simp (ne_eqb, e, p) (says.so all) }
 
-pub ruleset said_rows = (says_order, says_phrase, says-early, says-position, says-address)
+pub ruleset said_rows = (says_order, says_phrase, says_early, says_position, says_address)
 
 -- THE LOOP
 pub record Holding (phrases : Bool) (source items : List ℕ) (started listed : ℕ) (numbers : List ℕ) (count : ℕ) (cursor : Cursor) (i : ℕ) : Type 0 where
@@ -125,12 +125,12 @@ module _ (phrases : Bool) (source items : List ℕ) (started listed : ℕ) (numb
       record { stands = front_none source items; same = λ all. ap (rows_hold phrases items started listed) (left_all numbers count counted) }
 
   module _ (cursor : Cursor) (i : ℕ) (r : Holding phrases source items started listed numbers count cursor i) where
-    pub holding-front : Front source items cursor
-    holding-front = r.stands
+    pub holding_front : Front source items cursor
+    holding_front = r.stands
 
-    pub holding-ends : count ≤ i → Says source items (record { holds = true; front = cursor }) (rows_hold phrases items started listed (rows_in numbers))
+    pub holding_ends : count ≤ i → Says source items (record { holds = true; front = cursor }) (rows_hold phrases items started listed (rows_in numbers))
     unfolding rows_hold
-    holding-ends past =
+    holding_ends past =
         record { front = r.stands; so = λ all. ap (rows_hold phrases items started listed) (sym (left_over numbers count i past)) ∙ r.same all }
 
     module _ (row : Row) (judged : Judged) (here : i < count) (is : row ≡ row_at numbers i) (says : Says source items judged (row_holds phrases items started listed row)) where
@@ -140,15 +140,15 @@ module _ (phrases : Bool) (source items : List ℕ) (started listed : ℕ) (numb
       unfolding rows_hold
       splits all =
           ap (λ (a : Row). rows_hold phrases items started listed (a ∷ left numbers count (i + 1))) is
-          ∙ ap (rows_hold phrases items started listed) (sym (left-next numbers count i here))
+          ∙ ap (rows_hold phrases items started listed) (sym (left_next numbers count i here))
           ∙ r.same all
 
-      pub holding-refuses : not judged.holds ≡ true
+      pub holding_refuses : not judged.holds ≡ true
           → Says source items (record { holds = false; front = judged.front }) (rows_hold phrases items started listed (rows_in numbers))
-      holding-refuses h = record { front = says.front; so = λ all. sym (first_false _ _ (flag_off (says.so all) h)) ∙ splits all }
+      holding_refuses h = record { front = says.front; so = λ all. sym (first_false _ _ (flag_off (says.so all) h)) ∙ splits all }
 
-      pub holding-goes-on : not judged.holds ≡ false → Holding phrases source items started listed numbers count judged.front (i + 1)
+      pub holding_goes_on : not judged.holds ≡ false → Holding phrases source items started listed numbers count judged.front (i + 1)
       unfolding ◌and◌
-      holding-goes-on h = record { stands = says.front; same = λ all. rw (flag_on (says.so all) h) at (splits all) }
+      holding_goes_on h = record { stands = says.front; same = λ all. rw (flag_on (says.so all) h) at (splits all) }
 
-pub ruleset holding = (holding_starts, holding-front, holding-ends, holding-refuses, holding-goes-on)
+pub ruleset holding = (holding_starts, holding_front, holding_ends, holding_refuses, holding_goes_on)

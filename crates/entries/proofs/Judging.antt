@@ -103,55 +103,55 @@ module _ (size : Entry → ℕ) (letters : List ℕ) where
   -- POINTS AND PHRASES
 
   module _ (phrases : Bool) (items : List ℕ) (started listed : ℕ) (point : ℕ → Bool) (same : (value : ℕ) → point value ≡ is_point phrases items listed value) where
-    entry-holds : (row : Row) (entry : Entry) → RowIs letters row entry → point_holds (is_place items) point started entry ≡ row_holds phrases items started listed row
+    entry_holds : (row : Row) (entry : Entry) → RowIs letters row entry → point_holds (is_place items) point started entry ≡ row_holds phrases items started listed row
     unfolding point_holds row_holds if◌then◌else◌ ◌and◌
-    entry-holds row (start value) is = let k = is.0 in let v = is.1 in rw (k, v) (same row.from)
-    entry-holds row (stop value) is =
+    entry_holds row (start value) is = let k = is.0 in let v = is.1 in rw (k, v) (same row.from)
+    entry_holds row (stop value) is =
         let k = is.0 in
         let v = is.1 in
         by_test (row.from <? started)
         (λ early. rw (k, v, early) (and_false (point row.from) _ refl))
         (λ early. rw (k, v, early) (and_true (point row.from) _ refl ∙ same row.from))
-    entry-holds row (phrase letter from to) is = let k = is.0 in let a = is.2 in let b = is.3 in rw (k, a, b)
-    entry-holds row (order others) is = let k = is.0 in rw k
+    entry_holds row (phrase letter from to) is = let k = is.0 in let a = is.2 in let b = is.3 in rw (k, a, b)
+    entry_holds row (order others) is = let k = is.0 in rw k
 
-    points-judged : (rows : List Row) (entries : List Entry) (at : ℕ) → RowsAre letters rows entries
+    points_judged : (rows : List Row) (entries : List Entry) (at : ℕ) → RowsAre letters rows entries
         → Verdict 13 (rows_hold phrases items started listed rows)
         (all_pass (λ entry. if point_holds (is_place items) point started entry.what then passed else refused 13 entry.place) (placed_from size at entries))
     unfolding all_pass placed_from rows_hold
-    points-judged [] [] at are = refl
-    points-judged [] (entry ∷ entries) at are = absurd are
-    points-judged (row ∷ rows) [] at are = absurd are
-    points-judged (row ∷ rows) (entry ∷ entries) at are =
+    points_judged [] [] at are = refl
+    points_judged [] (entry ∷ entries) at are = absurd are
+    points_judged (row ∷ rows) [] at are = absurd are
+    points_judged (row ∷ rows) (entry ∷ entries) at are =
         judged_and 13 (row_holds phrases items started listed row) (rows_hold phrases items started listed rows) _ _
-        (subst (λ (b : Bool). Verdict 13 b (if point_holds (is_place items) point started entry then passed else refused 13 at)) (entry-holds row entry are.0)
+        (subst (λ (b : Bool). Verdict 13 b (if point_holds (is_place items) point started entry then passed else refused 13 at)) (entry_holds row entry are.0)
         (judged_if 13 at (point_holds (is_place items) point started entry)))
-        (points-judged rows entries _ are.1)
+        (points_judged rows entries _ are.1)
 
   -- LETTERS
 
   module _ (all : List (Placed Entry)) (rows_all : List Row) (same : (wanted : ℕ) → is_some (phrase_of wanted all) ≡ is_named wanted rows_all) where
-    letters-judged : (list : List ℕ) (at : ℕ) → Verdict 14 (all_named rows_all list) (letters_named all at list)
+    letters_judged : (list : List ℕ) (at : ℕ) → Verdict 14 (all_named rows_all list) (letters_named all at list)
     unfolding letters_named all_named if◌then◌else◌ ◌and◌
-    letters-judged [] at = refl
-    letters-judged (letter ∷ list) at =
+    letters_judged [] at = refl
+    letters_judged (letter ∷ list) at =
         by_test (is_named letter rows_all)
-        (λ h. let k = same letter ∙ h in rw (h, k) (letters-judged list (at + 1)))
+        (λ h. let k = same letter ∙ h in rw (h, k) (letters_judged list (at + 1)))
         (λ h. let k = same letter ∙ h in rw (h, k) (at, refl))
 
-    lists-judged : (rows : List Row) (entries : List Entry) (at : ℕ) → RowsAre letters rows entries
+    lists_judged : (rows : List Row) (entries : List Entry) (at : ℕ) → RowsAre letters rows entries
         → Verdict 14 (not (has_list rows) or all_named rows_all letters) (all_pass (λ entry. letters_hold all entry.place entry.what) (placed_from size at entries))
     unfolding all_pass placed_from has_list letters_hold ◌or◌ ◌>>◌
-    lists-judged [] [] at are = refl
-    lists-judged [] (entry ∷ entries) at are = absurd are
-    lists-judged (row ∷ rows) [] at are = absurd are
-    lists-judged (row ∷ rows) (start value ∷ entries) at are = let k = are.0.0 in rw k (lists-judged rows entries _ are.1)
-    lists-judged (row ∷ rows) (stop value ∷ entries) at are = let k = are.0.0 in rw k (lists-judged rows entries _ are.1)
-    lists-judged (row ∷ rows) (phrase letter from to ∷ entries) at are = let k = are.0.0 in rw k (lists-judged rows entries _ are.1)
-    lists-judged (row ∷ rows) (order others ∷ entries) at are =
+    lists_judged [] [] at are = refl
+    lists_judged [] (entry ∷ entries) at are = absurd are
+    lists_judged (row ∷ rows) [] at are = absurd are
+    lists_judged (row ∷ rows) (start value ∷ entries) at are = let k = are.0.0 in rw k (lists_judged rows entries _ are.1)
+    lists_judged (row ∷ rows) (stop value ∷ entries) at are = let k = are.0.0 in rw k (lists_judged rows entries _ are.1)
+    lists_judged (row ∷ rows) (phrase letter from to ∷ entries) at are = let k = are.0.0 in rw k (lists_judged rows entries _ are.1)
+    lists_judged (row ∷ rows) (order others ∷ entries) at are =
         let k = are.0.0 in
         let o = are.0.1 in
-        rw (k, o) (judged_again 14 (not (has_list rows)) (all_named rows_all letters) _ _ (letters-judged letters (at + 3)) (lists-judged rows entries (at + size (order letters)) are.1))
+        rw (k, o) (judged_again 14 (not (has_list rows)) (all_named rows_all letters) _ _ (letters_judged letters (at + 3)) (lists_judged rows entries (at + size (order letters)) are.1))
 
 -- BOTH
 
@@ -235,7 +235,7 @@ module _ (phrases : Bool) (letters numbers items : List ℕ) (given : is_fine (e
   held point same =
       let g = given_entries phrases letters numbers given in
       let rule : ℕ → Placed Entry → Checked (Unit {0}) = λ n entry. if point_holds (is_place items) point n entry.what then passed else refused 13 entry.place in
-      let judged = points-judged size letters phrases items started listed point same rows g.entries 0 g.are in
+      let judged = points_judged size letters phrases items started listed point same rows g.entries 0 g.are in
       subst (λ (n : ℕ). Verdict 13 holds (all_pass (rule n) all)) (sym start_is)
       (subst (λ (l : List (Placed Entry)). Verdict 13 holds (all_pass (rule started) l)) (sym stand) judged)
 
@@ -244,7 +244,7 @@ module _ (phrases : Bool) (letters numbers items : List ℕ) (given : is_fine (e
   in_order_lem =
       let g = given_entries phrases letters numbers given in
       subst (λ (l : List (Placed Entry)). Verdict 14 (not (has_list rows) or all_named rows letters) (all_pass (λ entry. letters_hold all entry.place entry.what) l)) (sym stand)
-      (lists-judged size letters all rows names rows g.entries 0 g.are)
+      (lists_judged size letters all rows names rows g.entries 0 g.are)
 
   in_stream : phrases ≡ false → fault_in (rules_hold phrases (is_place items) all) ≡ (if holds then 0 else 13)
   unfolding rules_hold
@@ -280,15 +280,15 @@ module _ (phrases : Bool) (letters numbers source items : List ℕ) (formed : Bo
   module _ (on : not formed ≡ false) (ordered : Bool) (listed started : ℕ) (is-ordered : ordered ≡ has_list (rows_in numbers))
       (is-listed : listed ≡ (if ordered then length letters else 0)) (is-started : started ≡ started_in (rows_in numbers)) (judged : Judged)
       (says : Says source items judged (rows_hold phrases items started listed (rows_in numbers))) where
-    fault-is : fault_in (seek_stage phrases numbers items letters)
+    fault_is : fault_in (seek_stage phrases numbers items letters)
         ≡ (if rows_hold phrases items started listed (rows_in numbers) then order_fault phrases ordered (rows_in numbers) letters else 13)
-    fault-is = stage_fault phrases letters numbers items (flag_on is on) ordered listed started is-ordered is-listed is-started
+    fault_is = stage_fault phrases letters numbers items (flag_on is on) ordered listed started is-ordered is-listed is-started
 
-    pub tells-points : not judged.holds ≡ true → Tells phrases letters numbers source items (record { fault = 13; front = judged.front })
-    tells-points h = record { front = says.front; so = λ all. sym (fault-is ∙ if_false _ _ _ (flag_off (says.so all) h)) }
+    pub tells_points : not judged.holds ≡ true → Tells phrases letters numbers source items (record { fault = 13; front = judged.front })
+    tells_points h = record { front = says.front; so = λ all. sym (fault_is ∙ if_false _ _ _ (flag_off (says.so all) h)) }
 
-    pub tells-order : (z : ℕ) → not judged.holds ≡ false → z ≡ order_fault phrases ordered (rows_in numbers) letters
+    pub tells_order : (z : ℕ) → not judged.holds ≡ false → z ≡ order_fault phrases ordered (rows_in numbers) letters
         → Tells phrases letters numbers source items (record { fault = z; front = judged.front })
-    tells-order z h e = record { front = says.front; so = λ all. e ∙ sym (fault-is ∙ if_true _ _ _ (flag_on (says.so all) h)) }
+    tells_order z h e = record { front = says.front; so = λ all. e ∙ sym (fault_is ∙ if_true _ _ _ (flag_on (says.so all) h)) }
 
-pub ruleset tellings = (tells_formless, tells-points, tells-order)
+pub ruleset tellings = (tells_formless, tells_points, tells_order)

@@ -16,7 +16,7 @@ use Rattle.seek.proofs.Ordering.{none_flagged}
 use Rattle.entries.specs.declared.row.Row.{Row}
 use Rattle.entries.specs.Rows.{row_at, rows_in}
 use Rattle.entries.specs.Rules.{marked, is_named, Named, all_named}
-use Rattle.entries.proofs.RowsLeft.{left, left_all, left-next, left_over}
+use Rattle.entries.proofs.RowsLeft.{left, left_all, left_next, left_over}
 
 -- FLAGS
 
@@ -80,7 +80,7 @@ module _ (numbers : List ℕ) (count : ℕ) where
               ap (λ (x : List Bool). named x letter (left numbers count (i + 1))) e
               ∙ sym (named_turns flags letter row (left numbers count (i + 1)) (omega (arith, r.long)))
               ∙ ap (λ (a : Row). named flags letter (a ∷ left numbers count (i + 1))) is
-              ∙ ap (λ (rows : List Row). named flags letter rows) (sym (left-next numbers count i here))
+              ∙ ap (λ (rows : List Row). named flags letter rows) (sym (left_next numbers count i here))
               ∙ r.same letter h;
         }
 
@@ -109,12 +109,12 @@ module _ (rows : List Row) (letters : List ℕ) where
           ∙ ap (all_named rows) (sym (drop-cons letters i 0 here))
           ∙ r.same
 
-      pub lettering-misses : get_or flags (letters ! i) false ≡ false → false ≡ all_named rows letters
+      pub lettering_misses : get_or flags (letters ! i) false ≡ false → false ≡ all_named rows letters
       unfolding ◌and◌
-      lettering-misses h = rw h at splits
+      lettering_misses h = rw h at splits
 
-      pub lettering-turns : get_or flags (letters ! i) false ≡ true → Lettering rows letters (i + 1)
+      pub lettering_turns : get_or flags (letters ! i) false ≡ true → Lettering rows letters (i + 1)
       unfolding ◌and◌
-      lettering-turns h = record { same = rw h at splits }
+      lettering_turns h = record { same = rw h at splits }
 
-pub ruleset lettering = (lettering_starts, lettering_ends, lettering-misses, lettering-turns, flag_on, flag_off)
+pub ruleset lettering = (lettering_starts, lettering_ends, lettering_misses, lettering_turns, flag_on, flag_off)

@@ -44,24 +44,24 @@ pub ruleset pairs = (pair_next, pair_wrote)
 -- a point
 module _ (phrases : Bool) (at : ℕ) where
   module _ (p : phrases ≡ true) where
-    pub byte-room : (l : List ℕ) → at + point_width phrases ≤ length l → at < length l
-    byte-room l h = let k = rw p at h in omega arith
+    pub byte_room : (l : List ℕ) → at + point_width phrases ≤ length l → at < length l
+    byte_room l h = let k = rw p at h in omega arith
 
     pub byte_next : (z : ℕ) → z ≡ at + 1 → z ≡ at + point_width phrases
     byte_next z e = rw p e
 
-    pub byte-stored : (l : List ℕ) (value : ℕ) → set l at (value % 256) ≡ sets l at (number_bytes (point_width phrases) value)
+    pub byte_stored : (l : List ℕ) (value : ℕ) → set l at (value % 256) ≡ sets l at (number_bytes (point_width phrases) value)
     unfolding number_bytes
-    byte-stored l value = rw p refl
+    byte_stored l value = rw p refl
 
   module _ (p : phrases ≡ false) where
     pub address_room : (l : List ℕ) → at + point_width phrases ≤ length l → at + 4 ≤ length l
     address_room l h = rw p at h
 
-    pub address-next : (z : ℕ) → z ≡ at + 4 → z ≡ at + point_width phrases
-    address-next z e = rw p e
+    pub address_next : (z : ℕ) → z ≡ at + 4 → z ≡ at + point_width phrases
+    address_next z e = rw p e
 
-    pub address-wrote : (l m : List ℕ) (value : ℕ) → m ≡ sets l at (number_bytes 4 value) → m ≡ sets l at (number_bytes (point_width phrases) value)
-    address-wrote l m value e = rw p e
+    pub address_wrote : (l m : List ℕ) (value : ℕ) → m ≡ sets l at (number_bytes 4 value) → m ≡ sets l at (number_bytes (point_width phrases) value)
+    address_wrote l m value e = rw p e
 
-pub ruleset point_bytes = (byte-room, byte_next, byte-stored, address_room, address-next, address-wrote)
+pub ruleset point_bytes = (byte_room, byte_next, byte_stored, address_room, address_next, address_wrote)

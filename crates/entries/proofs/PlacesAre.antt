@@ -70,8 +70,8 @@ module _ (voice : Voice) (source : List ℕ) where
         starts_are address (length numbers / 2) 0 numbers items 0 (past_fine (length numbers / 2 ≡? 0) 11 0 _ items given)
         ∙ ap (λ (n : ℕ). any (λ item. item.place ≡? address) (placed_from size 0 items) or (n ≡? address)) (zero-add (length (bytes_of handy_phone items)))
 
-    pub rules-are : (phrases : Bool) (entries : List (Placed Entry))
+    pub rules_are : (phrases : Bool) (entries : List (Placed Entry))
         → rules_hold phrases (is_place numbers) entries ≡ points_of phrases (items_placed items) (length (bytes_of handy_phone items)) entries
     unfolding rules_hold points_of
-    rules-are true entries = ap (λ (address : ℕ → Bool). points_hold address (is_position entries) entries >> order_holds entries) (fun_ext place_is)
-    rules-are false entries = ap (λ (address : ℕ → Bool). points_hold address address entries) (fun_ext place_is)
+    rules_are true entries = ap (λ (address : ℕ → Bool). points_hold address (is_position entries) entries >> order_holds entries) (fun_ext place_is)
+    rules_are false entries = ap (λ (address : ℕ → Bool). points_hold address address entries) (fun_ext place_is)

@@ -16,7 +16,7 @@ use Rattle.model.specs.Bytes.{◌!◌}
 use Rattle.model.specs.Writing.{item_given}
 use Rattle.model.specs.declared.Voice.TheVariants.{Score}
 use Rattle.writing.specs.Parts.{given_size, given_bytes}
-use Rattle.writing.proofs.Checking.{length_sized, checked_none, checked-next, checked-on}
+use Rattle.writing.proofs.Checking.{length_sized, checked_none, checked_next, checked_on}
 use Rattle.entries.specs.declared.address.Cursor.{Cursor}
 use Rattle.entries.specs.Places.{is_start, is_place, Stands, Front, Came}
 
@@ -44,9 +44,9 @@ module _ (numbers : List ℕ) (count index : ℕ) where
   size = given_size (numbers ! (2 * index)) (numbers ! (2 * index + 1))
 
   module _ (here : index < count) (place address : ℕ) where
-    first-start : starts place address ≡ ((place ≡? address) or after (place + size) address)
+    first_start : starts place address ≡ ((place ≡? address) or after (place + size) address)
     unfolding is_start
-    first-start =
+    first_start =
         let more : count - index ≡ suc (count - (index + 1)) = omega arith in
         let at : 2 * index + 0 ≡ 2 * index = omega arith in
         let one : drop (2 * index) numbers ! 0 ≡ numbers ! (2 * index) = get_or-drop (2 * index) numbers 0 0 ∙ ap (λ (n : ℕ). numbers ! n) at in
@@ -55,14 +55,14 @@ module _ (numbers : List ℕ) (count index : ℕ) where
         let on : drop 2 (drop (2 * index) numbers) ≡ drop (2 * (index + 1)) numbers = drop-drop 2 (2 * index) numbers ∙ ap (λ (n : ℕ). drop n numbers) further in
         rw (more, one, two, on)
 
-    starts-after : place < address → starts place address ≡ after (place + size) address
+    starts_after : place < address → starts place address ≡ after (place + size) address
     unfolding ◌or◌
-    starts-after h = first-start ∙ rw (ne_eqb place address (λ e. omega arith)) refl
+    starts_after h = first_start ∙ rw (ne_eqb place address (λ e. omega arith)) refl
 
-    starts-onward : place + size ≤ address → starts place address ≡ after (place + size) address
-    starts-onward h =
+    starts_onward : place + size ≤ address → starts place address ≡ after (place + size) address
+    starts_onward h =
         elim (dec_lt place address) [
-          | yes before ↦ starts-after before
+          | yes before ↦ starts_after before
           | no before ↦
               let here : place ≡ address = omega arith in
               let there : place + size ≡ address = omega arith in
@@ -100,11 +100,11 @@ module _ (source numbers : List ℕ) (index place address : ℕ) (r : Front sour
       }
 
   module _ (here : index < length numbers / 2) (n : ℕ) (is : n ≡ length (given_bytes (item_given Score source (numbers ! (2 * index)) (numbers ! (2 * index + 1))))) where
-    pub front-faulty : n ≡ 0 → Came source numbers (record { index = index; place = place }) address
-    front-faulty none = record { front = r; beyond = λ all before. absurd (checked-on Score source numbers index place r.checked here n is all none) }
+    pub front_faulty : n ≡ 0 → Came source numbers (record { index = index; place = place }) address
+    front_faulty none = record { front = r; beyond = λ all before. absurd (checked_on Score source numbers index place r.checked here n is all none) }
 
-    pub front-goes-on : (n ≡ 0 → ⊥) → n ≤ 260 → place < address → Fits w32 address → Front source numbers (record { index = index + 1; place = place + n })
-    front-goes-on some few before small =
+    pub front_goes_on : (n ≡ 0 → ⊥) → n ≤ 260 → place < address → Fits w32 address → Front source numbers (record { index = index + 1; place = place + n })
+    front_goes_on some few before small =
         let next : n ≡ size numbers (length numbers / 2) index = length_sized Score source _ _ n is some in
         record {
           stands = record {
@@ -112,10 +112,10 @@ module _ (source numbers : List ℕ) (index place address : ℕ) (r : Front sour
             near = omega arith;
             onward = λ other h.
                 ap (λ (n : ℕ). after numbers (length numbers / 2) index (place + n) other) next
-                ∙ sym (starts-onward numbers (length numbers / 2) index here place other (omega arith))
+                ∙ sym (starts_onward numbers (length numbers / 2) index here place other (omega arith))
                 ∙ r.stands.onward other (omega arith);
           };
-          checked = checked-next Score source numbers index place r.checked here n is some;
+          checked = checked_next Score source numbers index place r.checked here n is some;
         }
 
 pub ruleset fronts = (front_there, front_over)
@@ -145,20 +145,20 @@ module _ (numbers : List ℕ) (count address : ℕ) where
         ]
         ∙ r.left
 
-    pub reach-goes-on : (more : ℕ) → index < count → place < address → Fits w32 address → (more ≡ given_size (numbers ! (2 * index)) (numbers ! (2 * index + 1))) × (more ≤ 260)
+    pub reach_goes_on : (more : ℕ) → index < count → place < address → Fits w32 address → (more ≡ given_size (numbers ! (2 * index)) (numbers ! (2 * index + 1))) × (more ≤ 260)
         → Reaching numbers count address (index + 1) (place + more)
-    reach-goes-on more here before small sized =
+    reach_goes_on more here before small sized =
         let next : more ≡ size numbers count index = sized.0 in
         let few : more ≤ 260 = sized.1 in
         record {
           near = omega arith;
           left =
               ap (λ (n : ℕ). after numbers count index (place + n) address) next
-              ∙ sym (starts-after numbers count index here place address before)
+              ∙ sym (starts_after numbers count index here place address before)
               ∙ r.left;
         }
 
-pub ruleset reaching = (reach_starts, reach_over, reach_there, reach-goes-on)
+pub ruleset reaching = (reach_starts, reach_over, reach_there, reach_goes_on)
 
 -- an address where a cursor stands
 pub address_met : (numbers : List ℕ) (cursor : Cursor) (address : ℕ) → Stands numbers cursor → address ≡ cursor.place → true ≡ is_place numbers address

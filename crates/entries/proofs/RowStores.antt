@@ -34,60 +34,60 @@ pub ruleset tag_stores = (tag_room, comma_room, tag_wrote, kept_set)
 -- its data, by its kind
 module _ (phrases : Bool) (letters : List ℕ) (row : Row) (l : List ℕ) (at : ℕ) where
   module _ (k : row.kind ≡ 2) where
-    phrase-data : data_of phrases letters row ≡ number_bytes 4 row.from ++ number_bytes 4 row.to
+    phrase_data : data_of phrases letters row ≡ number_bytes 4 row.from ++ number_bytes 4 row.to
     unfolding data_of if◌then◌else◌
-    phrase-data = simp k
+    phrase_data = simp k
 
-    phrase-long : length (data_of phrases letters row) ≡ 8
+    phrase_long : length (data_of phrases letters row) ≡ 8
     unfolding number_bytes
-    phrase-long = ap length phrase-data
+    phrase_long = ap length phrase_data
 
-    pub phrase-room : at + length (data_of phrases letters row) ≤ length l → at + 8 ≤ length l
-    phrase-room h = omega (arith, phrase-long)
+    pub phrase_room : at + length (data_of phrases letters row) ≤ length l → at + 8 ≤ length l
+    phrase_room h = omega (arith, phrase_long)
 
-    pub phrase-next : (z : ℕ) → z ≡ at + 8 → z ≡ at + length (data_of phrases letters row)
-    phrase-next z e = omega (arith, phrase-long)
+    pub phrase_next : (z : ℕ) → z ≡ at + 8 → z ≡ at + length (data_of phrases letters row)
+    phrase_next z e = omega (arith, phrase_long)
 
-    pub phrase-wrote : (m : List ℕ) → m ≡ sets l at (number_bytes 4 row.from ++ number_bytes 4 row.to) → m ≡ sets l at (data_of phrases letters row)
-    phrase-wrote m e = e ∙ ap (sets l at) (sym phrase-data)
+    pub phrase_wrote : (m : List ℕ) → m ≡ sets l at (number_bytes 4 row.from ++ number_bytes 4 row.to) → m ≡ sets l at (data_of phrases letters row)
+    phrase_wrote m e = e ∙ ap (sets l at) (sym phrase_data)
 
   module _ (k : row.kind ≡ 3) where
-    order-data : data_of phrases letters row ≡ letters
+    order_data : data_of phrases letters row ≡ letters
     unfolding data_of if◌then◌else◌
-    order-data = simp k
+    order_data = simp k
 
-    pub order-room : at + length (data_of phrases letters row) ≤ length l → at + length letters ≤ length l
-    order-room h = omega (arith, ap length order-data)
+    pub order_room : at + length (data_of phrases letters row) ≤ length l → at + length letters ≤ length l
+    order_room h = omega (arith, ap length order_data)
 
     pub order_next : (z : ℕ) → z ≡ at + length letters → z ≡ at + length (data_of phrases letters row)
-    order_next z e = omega (arith, ap length order-data)
+    order_next z e = omega (arith, ap length order_data)
 
-    pub order-wrote : (m : List ℕ) → m ≡ sets l at (part letters 0 (length letters)) → m ≡ sets l at (data_of phrases letters row)
-    order-wrote m e = e ∙ ap (sets l at) (take-length letters ∙ sym order-data)
+    pub order_wrote : (m : List ℕ) → m ≡ sets l at (part letters 0 (length letters)) → m ≡ sets l at (data_of phrases letters row)
+    order_wrote m e = e ∙ ap (sets l at) (take-length letters ∙ sym order_data)
 
   module _ (not-phrase : row.kind ≡ 2 → ⊥) (not-order : row.kind ≡ 3 → ⊥) where
-    point-data : data_of phrases letters row ≡ number_bytes (point_width phrases) row.from
+    point_data : data_of phrases letters row ≡ number_bytes (point_width phrases) row.from
     unfolding data_of if◌then◌else◌
-    point-data = simp ne_eqb
+    point_data = simp ne_eqb
 
-    width-long : (p : Bool) (n : ℕ) → length (number_bytes (point_width p) n) ≡ point_width p
+    width_long : (p : Bool) (n : ℕ) → length (number_bytes (point_width p) n) ≡ point_width p
     unfolding number_bytes
-    width-long true n = refl
-    width-long false n = refl
+    width_long true n = refl
+    width_long false n = refl
 
-    point-long : length (data_of phrases letters row) ≡ point_width phrases
-    point-long = ap length point-data ∙ width-long phrases row.from
+    point_long : length (data_of phrases letters row) ≡ point_width phrases
+    point_long = ap length point_data ∙ width_long phrases row.from
 
-    pub point-room : at + length (data_of phrases letters row) ≤ length l → at + point_width phrases ≤ length l
-    point-room h = omega (arith, point-long)
+    pub point_room : at + length (data_of phrases letters row) ≤ length l → at + point_width phrases ≤ length l
+    point_room h = omega (arith, point_long)
 
-    pub point-next : (z : ℕ) → z ≡ at + point_width phrases → z ≡ at + length (data_of phrases letters row)
-    point-next z e = omega (arith, point-long)
+    pub point_next : (z : ℕ) → z ≡ at + point_width phrases → z ≡ at + length (data_of phrases letters row)
+    point_next z e = omega (arith, point_long)
 
-    pub point-wrote : (m : List ℕ) → m ≡ sets l at (number_bytes (point_width phrases) row.from) → m ≡ sets l at (data_of phrases letters row)
-    point-wrote m e = e ∙ ap (sets l at) (sym point-data)
+    pub point_wrote : (m : List ℕ) → m ≡ sets l at (number_bytes (point_width phrases) row.from) → m ≡ sets l at (data_of phrases letters row)
+    point_wrote m e = e ∙ ap (sets l at) (sym point_data)
 
-pub ruleset data_stores = (phrase-room, phrase-next, phrase-wrote, order-room, order_next, order-wrote, point-room, point-next, point-wrote)
+pub ruleset data_stores = (phrase_room, phrase_next, phrase_wrote, order_room, order_next, order_wrote, point_room, point_next, point_wrote)
 
 -- both parts
 module _ (phrases : Bool) (letters : List ℕ) (row : Row) where
@@ -100,8 +100,8 @@ module _ (phrases : Bool) (letters : List ℕ) (row : Row) where
     head_room room = omega (arith, row_long)
 
     module _ (k : List ℕ) (middle : ℕ) (between : middle ≡ at + 4) where
-      pub data-room : at + length (row_bytes phrases letters row) ≤ length l → length k ≡ length l → middle + length (data_of phrases letters row) ≤ length k
-      data-room room same = omega (arith, row_long)
+      pub data_room : at + length (row_bytes phrases letters row) ≤ length l → length k ≡ length l → middle + length (data_of phrases letters row) ≤ length k
+      data_room room same = omega (arith, row_long)
 
       pub row_next : (r : ℕ) → r ≡ middle + length (data_of phrases letters row) → r ≡ at + length (row_bytes phrases letters row)
       row_next r e = omega (arith, row_long)
@@ -114,4 +114,4 @@ module _ (phrases : Bool) (letters : List ℕ) (row : Row) where
           let bytes = data_of phrases letters row in
           h ∙ ap (λ (x : List ℕ). sets x middle bytes) e ∙ ap (λ (n : ℕ). sets (sets l at head) n bytes) between ∙ sets_append l at head bytes
 
-pub ruleset row_stores = (head_room, data-room, row_next, row_wrote)
+pub ruleset row_stores = (head_room, data_room, row_next, row_wrote)

@@ -63,19 +63,19 @@ module _ (phrases : Bool) (place : ℕ) (before : List (Placed Entry)) where
     abbrev here : Placed Entry
     here = record { place = place; what = entry }
 
-    pub formed-stops : (number at : ℕ) (more : Checked (List Entry)) → in_order before (record { place = place; what = entry }) ≡ refused number at
+    pub formed_stops : (number at : ℕ) (more : Checked (List Entry)) → in_order before (record { place = place; what = entry }) ≡ refused number at
         → formed phrases place before (ahead (fine entry) more) ≡ false
     unfolding formed ahead ◌>>=◌ placed_from walk_of in_turn is_fine ◌>>◌
-    formed-stops number at (fine entries) h = rw h refl
-    formed-stops number at (refused n p) h = refl
+    formed_stops number at (fine entries) h = rw h refl
+    formed_stops number at (refused n p) h = refl
 
     still : (rest : Checked (List (Placed Entry))) → is_fine (rest >>= λ all. fine (here ∷ all)) ≡ is_fine rest
     unfolding is_fine ◌>>=◌
     still (fine all) = refl
     still (refused number at) = refl
 
-    pub formed-next : (more : Checked (List Entry)) → in_order before (record { place = place; what = entry }) ≡ passed
+    pub formed_next : (more : Checked (List Entry)) → in_order before (record { place = place; what = entry }) ≡ passed
         → formed phrases place before (ahead (fine entry) more) ≡ formed phrases (place + size_of phrases entry) (record { place = place; what = entry } ∷ before) more
     unfolding formed ahead ◌>>=◌ placed_from walk_of in_turn is_fine ◌>>◌
-    formed-next (fine entries) h = rw h (still (in_turn in_order (here ∷ before) (walk_of (placed_from (size_of phrases) (place + size_of phrases entry) entries))))
-    formed-next (refused n p) h = refl
+    formed_next (fine entries) h = rw h (still (in_turn in_order (here ∷ before) (walk_of (placed_from (size_of phrases) (place + size_of phrases entry) entries))))
+    formed_next (refused n p) h = refl

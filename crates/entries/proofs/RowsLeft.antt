@@ -19,9 +19,9 @@ module _ (numbers : List ℕ) (count : ℕ) where
   left_all counted = ap (λ (n : ℕ). rows_from n numbers) (sub-zero count ∙ counted)
 
   module _ (i : ℕ) where
-    row-there : row_at (drop (4 * i) numbers) 0 ≡ row_at numbers i
+    row_there : row_at (drop (4 * i) numbers) 0 ≡ row_at numbers i
     unfolding row_at
-    row-there =
+    row_there =
         let at : 4 * i + 0 ≡ 4 * i = omega arith in
         let first : drop (4 * i) numbers ! 0 ≡ numbers ! (4 * i) = get_or-drop (4 * i) numbers 0 0 ∙ ap (λ (n : ℕ). numbers ! n) at in
         let second : drop (4 * i) numbers ! 1 ≡ numbers ! (4 * i + 1) = get_or-drop (4 * i) numbers 1 0 in
@@ -29,13 +29,13 @@ module _ (numbers : List ℕ) (count : ℕ) where
         let fourth : drop (4 * i) numbers ! 3 ≡ numbers ! (4 * i + 3) = get_or-drop (4 * i) numbers 3 0 in
         rw (first, second, third, fourth)
 
-    pub left-next : i < count → left numbers count i ≡ row_at numbers i ∷ left numbers count (i + 1)
+    pub left_next : i < count → left numbers count i ≡ row_at numbers i ∷ left numbers count (i + 1)
     unfolding rows_from
-    left-next here =
+    left_next here =
         let more : count - i ≡ suc (count - (i + 1)) = omega arith in
         let further : 4 * i + 4 ≡ 4 * (i + 1) = omega arith in
         let on : drop 4 (drop (4 * i) numbers) ≡ drop (4 * (i + 1)) numbers = drop-drop 4 (4 * i) numbers ∙ ap (λ (n : ℕ). drop n numbers) further in
-        rw (more, row-there, on)
+        rw (more, row_there, on)
 
     pub left_over : count ≤ i → left numbers count i ≡ []
     unfolding rows_from

@@ -13,7 +13,7 @@ use Rattle.writing.specs.Parts.{limited}
 use Rattle.writing.proofs.Limits.{limited_small, limited_most, limited_adds}
 use Rattle.entries.specs.declared.row.Row.{Row}
 use Rattle.entries.specs.Rows.{row_at, rows_in, data_of, row_bytes, rows_bytes, seek_size}
-use Rattle.entries.proofs.RowsLeft.{left, left_all, left-next, left_over}
+use Rattle.entries.proofs.RowsLeft.{left, left_all, left_next, left_over}
 
 -- one row
 module _ (phrases : Bool) (letters : List ℕ) (row : Row) where
@@ -26,15 +26,15 @@ module _ (phrases : Bool) (letters : List ℕ) (row : Row) where
   size_order z k e = let same : z ≡ suc (suc (suc (suc (length letters)))) = omega arith in simp k same
 
   module _ (not-phrase : row.kind ≡ 2 → ⊥) (not-order : row.kind ≡ 3 → ⊥) where
-    pub size-position : phrases ≡ true → 5 ≡ length (row_bytes phrases letters row)
+    pub size_position : phrases ≡ true → 5 ≡ length (row_bytes phrases letters row)
     unfolding row_bytes data_of number_bytes if◌then◌else◌
-    size-position p = rw p (simp ne_eqb)
+    size_position p = rw p (simp ne_eqb)
 
-    pub size-address : phrases ≡ false → 8 ≡ length (row_bytes phrases letters row)
+    pub size_address : phrases ≡ false → 8 ≡ length (row_bytes phrases letters row)
     unfolding row_bytes data_of number_bytes if◌then◌else◌
-    size-address p = rw p (simp ne_eqb)
+    size_address p = rw p (simp ne_eqb)
 
-pub ruleset row_sizes = (size_phrase, size_order, size-position, size-address)
+pub ruleset row_sizes = (size_phrase, size_order, size_position, size_address)
 
 -- all of them
 pub record Sizing (phrases : Bool) (letters numbers : List ℕ) (count size i : ℕ) : Type 0 where
@@ -51,7 +51,7 @@ module _ (phrases : Bool) (letters numbers : List ℕ) (count : ℕ) (counted : 
   pub size_starts : (count ≡ 0 → ⊥) → Sizing phrases letters numbers count 7 0
   unfolding seek_size
   size_starts h =
-      let some = left-next numbers count 0 (omega arith) in
+      let some = left_next numbers count 0 (omega arith) in
       record {
         few = omega arith;
         same =
@@ -60,16 +60,16 @@ module _ (phrases : Bool) (letters numbers : List ℕ) (count : ℕ) (counted : 
       }
 
   module _ (size i : ℕ) (r : Sizing phrases letters numbers count size i) where
-    pub size-ends : count ≤ i → size ≡ limited (seek_size phrases letters (rows_in numbers))
+    pub size_ends : count ≤ i → size ≡ limited (seek_size phrases letters (rows_in numbers))
     unfolding rows_bytes
-    size-ends past =
+    size_ends past =
         let all : limited (size + 0) ≡ size = ap limited (add-zero size) ∙ limited_small size r.few in
         sym all ∙ ap (λ (rows : List Row). limited (size + length (rows_bytes phrases letters rows))) (sym (left_over numbers count i past)) ∙ r.same
 
-    pub size-goes-on : (row : Row) (more next : ℕ) → i < count → row ≡ row_at numbers i → more ≡ length (row_bytes phrases letters row) → next ≡ limited (size + more)
+    pub size_goes_on : (row : Row) (more next : ℕ) → i < count → row ≡ row_at numbers i → more ≡ length (row_bytes phrases letters row) → next ≡ limited (size + more)
         → Sizing phrases letters numbers count next (i + 1)
     unfolding rows_bytes
-    size-goes-on row more next here is sized e =
+    size_goes_on row more next here is sized e =
         let first = row_bytes phrases letters (row_at numbers i) in
         let rest = rows_bytes phrases letters (left numbers count (i + 1)) in
         let m : more ≡ length first = sized ∙ ap (λ (a : Row). length (row_bytes phrases letters a)) is in
@@ -80,8 +80,8 @@ module _ (phrases : Bool) (letters numbers : List ℕ) (count : ℕ) (counted : 
               ap (λ (n : ℕ). limited (n + length rest)) e
               ∙ limited_adds (size + more) (length rest)
               ∙ ap limited sum
-              ∙ ap (λ (rows : List Row). limited (size + length (rows_bytes phrases letters rows))) (sym (left-next numbers count i here))
+              ∙ ap (λ (rows : List Row). limited (size + length (rows_bytes phrases letters rows))) (sym (left_next numbers count i here))
               ∙ r.same;
         }
 
-pub ruleset sizing = (size_none, size_starts, size-ends, size-goes-on)
+pub ruleset sizing = (size_none, size_starts, size_ends, size_goes_on)

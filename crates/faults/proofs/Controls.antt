@@ -15,7 +15,7 @@ use Rattle.model.specs.declared.Event.TheVariants.{Control}
 use Rattle.model.specs.declared.ReadEvent.{ReadEvent}
 use Rattle.model.specs.declared.ReadEvent.TheVariants.{Is, Refused}
 use Rattle.model.proofs.Tests.{if_all}
-use Rattle.faults.proofs.Exact.{Seen, Seen.ends, Seen.fails, Mended, Exact, exact_ends, exact_wrong, exact_if, exact-byte, mended_end}
+use Rattle.faults.proofs.Exact.{Seen, Seen.ends, Seen.fails, Mended, Exact, exact_ends, exact_wrong, exact_if, exact_byte, mended_end}
 
 abbrev pub event_seen : ReadEvent → Seen
 event_seen (Is what next) = ends next
@@ -65,13 +65,13 @@ module _ (voice : Voice) (s : List ℕ) (at : ℕ) where
       }
 
   module _ (here : at + 1 ≤ length s) where
-    long-exact : at + 1 < length s → (s ! (at + 1) / 16 % 4 ≡? 3) ≡ true
+    long_exact : at + 1 < length s → (s ! (at + 1) / 16 % 4 ≡? 3) ≡ true
         → Exact event_seen s (λ t. control_at voice t at) (λ t. long_at voice t at (s ! (at + 1) / 64) (long_kind (s ! (at + 1) % 16))) (at + 1)
     unfolding long_at
-    long-exact room long =
+    long_exact room long =
         exact_if event_seen s _ (at + 1) (long_kind (s ! (at + 1) % 16) ≡? 0) _ _ (λ h. exact_wrong event_seen s _ (at + 1) refl (control_mended here) (omega arith))
         (λ h. exact_if event_seen s _ (at + 1) (not (has_kind voice (long_kind (s ! (at + 1) % 16)))) _ _ (λ i. exact_wrong event_seen s _ (at + 1) refl (control_mended here) (omega arith))
-        (λ i. exact-byte event_seen s _ (Refused 20) (λ end. refl) (at + 1) (at + 2)
+        (λ i. exact_byte event_seen s _ (Refused 20) (λ end. refl) (at + 1) (at + 2)
         (λ value t.
         if is_value (long_kind (s ! (at + 1) % 16)) value then Is (Control (long_kind (s ! (at + 1) % 16)) (s ! (at + 1) / 64) value) (at + 3) else
         Refused 23 (at + 2))
@@ -80,18 +80,18 @@ module _ (voice : Voice) (s : List ℕ) (at : ℕ) where
         (λ k. exact_ends event_seen s _ (at + 2) refl (omega arith))
         (λ k. exact_wrong event_seen s _ (at + 2) refl (value_mended room long h i) (omega arith)))))
 
-    short-exact : at + 1 < length s
+    short_exact : at + 1 < length s
         → Exact event_seen s (λ t. control_at voice t at) (λ t. short_at voice at (s ! (at + 1) / 64) (short_kind (s ! (at + 1) / 16 % 4)) (s ! (at + 1) % 16)) (at + 1)
     unfolding short_at
-    short-exact room =
+    short_exact room =
         exact_if event_seen s _ (at + 1) (not (has_kind voice (short_kind (s ! (at + 1) / 16 % 4)))) _ _ (λ h. exact_wrong event_seen s _ (at + 1) refl (control_mended here) (omega arith))
         (λ h. exact_if event_seen s _ (at + 1) (s ! (at + 1) % 16 ≡? 0) _ _ (λ i. exact_wrong event_seen s _ (at + 1) refl (control_mended here) (omega arith))
         (λ i. exact_if event_seen s _ (at + 1) (s ! (at + 1) % 16 ≡? 15) _ _ (λ j. exact_wrong event_seen s _ (at + 1) refl (control_mended here) (omega arith))
         (λ j. exact_ends event_seen s _ (at + 1) refl (omega arith))))
 
-    pub control-exact : Exact event_seen s (λ t. control_at voice t at) (λ t. control_at voice t at) (at + 1)
+    pub control_exact : Exact event_seen s (λ t. control_at voice t at) (λ t. control_at voice t at) (at + 1)
     unfolding control_at formed
-    control-exact =
-        exact-byte event_seen s _ (Refused 20) (λ end. refl) (at + 1) (at + 1) (λ second t. formed voice t at second) (omega arith)
+    control_exact =
+        exact_byte event_seen s _ (Refused 20) (λ end. refl) (at + 1) (at + 1) (λ second t. formed voice t at second) (omega arith)
         (mended_end event_seen s _ (at + 1) here (control_mended here))
-        (λ room. exact_if event_seen s _ (at + 1) (s ! (at + 1) / 16 % 4 ≡? 3) _ _ (long-exact room) (λ h. short-exact room))
+        (λ room. exact_if event_seen s _ (at + 1) (s ! (at + 1) / 16 % 4 ≡? 3) _ _ (long_exact room) (λ h. short_exact room))

@@ -12,7 +12,7 @@ use Rattle.model.specs.declared.ReadDuration.{ReadDuration}
 use Rattle.model.specs.declared.ReadDuration.TheVariants.{Is, Refused}
 use Rattle.model.proofs.Tests.{by_test, if_true, if_false, if_all}
 use Rattle.faults.proofs.Agreement.{Agree}
-use Rattle.faults.proofs.Exact.{Seen, Seen.ends, Seen.fails, Mended, Exact, exact_ends, exact_wrong, exact_as, exact_if, exact-cut, exact-byte, mended_end}
+use Rattle.faults.proofs.Exact.{Seen, Seen.ends, Seen.fails, Mended, Exact, exact_ends, exact_wrong, exact_as, exact_if, exact_cut, exact_byte, mended_end}
 
 abbrev pub duration_seen : ReadDuration → Seen
 duration_seen (Is value next) = ends next
@@ -42,9 +42,9 @@ module _ (made : ReadDuration → ReadDuration) (kept : (value next : ℕ) → 0
         let first = a.same at (omega arith) in
         two_read t (omega arith) (omega arith) ∙ ap (λ (byte : ℕ). second_at at byte t) first
 
-    second-mended : Mended duration_seen s (λ t. made (duration_at t at)) (at + 1)
+    second_mended : Mended duration_seen s (λ t. made (duration_at t at)) (at + 1)
     unfolding second_at if◌then◌else◌
-    second-mended =
+    second_mended =
         record {
           rest = 0x01 ∷ [];
           bytes = omega arith;
@@ -55,15 +55,15 @@ module _ (made : ReadDuration → ReadDuration) (kept : (value next : ℕ) → 0
               ap duration_seen (read_as t c.front) ∙ simp (lt-leb, second, next);
         }
 
-    two-exact : Exact duration_seen s (λ t. made (duration_at t at)) (λ t. made (duration_at t at)) at
+    two_exact : Exact duration_seen s (λ t. made (duration_at t at)) (λ t. made (duration_at t at)) at
     unfolding second_at
-    two-exact =
+    two_exact =
         exact_as duration_seen s _ (second_at at (s ! at)) _ at at (at + 1) (omega arith) read_as
-        (exact-byte duration_seen s _ (Refused 20) (λ end. refl) at (at + 1)
+        (exact_byte duration_seen s _ (Refused 20) (λ end. refl) at (at + 1)
         (λ second t. if second <? 128 then Is (two_byte_value (s ! at) second) (at + 2) else Refused 23 (at + 1)) (omega arith)
-        (mended_end duration_seen s _ (at + 1) (omega arith) second-mended)
+        (mended_end duration_seen s _ (at + 1) (omega arith) second_mended)
         (λ room. exact_if duration_seen s _ (at + 1) (s ! (at + 1) <? 128) _ _ (λ h. exact_ends duration_seen s _ (at + 1) refl (omega arith))
-        (λ h. exact_wrong duration_seen s _ (at + 1) refl second-mended (omega arith))))
+        (λ h. exact_wrong duration_seen s _ (at + 1) refl second_mended (omega arith))))
 
 module _ (s : List ℕ) (at : ℕ) where
   pub duration_exact : at < length s → Exact duration_seen s (λ t. duration_at t at) (λ t. duration_at t at) at
@@ -76,7 +76,7 @@ module _ (s : List ℕ) (at : ℕ) where
       let first = a.same at (omega arith) in
       simp (lt-leb, first, h))
       (exact_ends duration_seen s _ at refl (omega arith)))
-      (λ h. two-exact (λ d. d) (λ value next some. refl) (λ number place. refl) at s here (ltb-false _ _ h))
+      (λ h. two_exact (λ d. d) (λ value next some. refl) (λ number place. refl) at s here (ltb-false _ _ h))
 
   gate_mended : at ≤ length s → Mended duration_seen s (λ t. gate_at t at) at
   unfolding gate_at not_zero duration_at if◌then◌else◌
@@ -99,7 +99,7 @@ module _ (s : List ℕ) (at : ℕ) where
   unfolding gate_at not_zero duration_at
   gate_exact within =
       by_test (length s ≤? at)
-      (λ h. exact-cut duration_seen s _ (Refused 20) (λ end. refl) at _ (ap (not_zero at) (if_true _ _ _ h)) within
+      (λ h. exact_cut duration_seen s _ (Refused 20) (λ end. refl) at _ (ap (not_zero at) (if_true _ _ _ h)) within
       (mended_end duration_seen s _ at within (gate_mended within) (leb-true _ _ h)))
       (λ h.
       let here = leb-false (length s) at h in
@@ -110,4 +110,4 @@ module _ (s : List ℕ) (at : ℕ) where
       gate_read t (omega arith) (omega (arith, ltb-true)) ∙ ap (λ (byte : ℕ). if byte ≡? 0 then Refused 21 at else Is byte (at + 1)) first)
       (exact_if duration_seen s _ at (s ! at ≡? 0) _ _ (λ j. exact_wrong duration_seen s _ at refl (gate_mended within) (omega arith))
       (λ j. exact_ends duration_seen s _ at refl (omega arith))))
-      (λ i. two-exact (not_zero at) (λ value next some. if_false _ _ _ (ne_eqb value 0 (λ e. omega arith))) (λ number place. refl) at s here (ltb-false _ _ i)))
+      (λ i. two_exact (not_zero at) (λ value next some. if_false _ _ _ (ne_eqb value 0 (λ e. omega arith))) (λ number place. refl) at s here (ltb-false _ _ i)))

@@ -17,9 +17,9 @@ use Rattle.model.specs.declared.ReadEvent.{ReadEvent}
 use Rattle.model.specs.declared.ReadEvent.TheVariants.{Is, Refused}
 use Rattle.model.proofs.Tests.{if_true, if_false}
 use Rattle.faults.proofs.Agreement.{Agree}
-use Rattle.faults.proofs.Exact.{Mended, Exact, exact_wrong, exact_if, exact-byte, exact_made, exact_part, mended_end}
+use Rattle.faults.proofs.Exact.{Mended, Exact, exact_wrong, exact_if, exact_byte, exact_made, exact_part, mended_end}
 use Rattle.faults.proofs.Durations.{duration_seen, gate_exact}
-use Rattle.faults.proofs.Controls.{event_seen, control-exact}
+use Rattle.faults.proofs.Controls.{event_seen, control_exact}
 use Rattle.faults.proofs.Systems.{system_exact}
 
 gated_seen : (voice : Voice) (byte : ℕ) (d : ReadDuration) → event_seen (gated voice byte d) ≡ duration_seen d
@@ -59,10 +59,10 @@ module _ (voice : Voice) (s : List ℕ) (at : ℕ) where
   pub event_exact : at ≤ length s → Exact event_seen s (λ t. event_at voice t at) (λ t. event_at voice t at) at
   unfolding event_at first_at sound_at
   event_exact within =
-      exact-byte event_seen s _ (Refused 20) (λ end. refl) at at (first_at voice at) (omega arith) (mended_end event_seen s _ at within (event_mended within))
+      exact_byte event_seen s _ (Refused 20) (λ end. refl) at at (first_at voice at) (omega arith) (mended_end event_seen s _ at within (event_mended within))
       (λ room. exact_if event_seen s _ at (s ! at ≡? 0x00) _ _
       (λ h. exact_part event_seen s (λ t. control_at voice t at) _ (at + 1)
-      (λ t a. first_read t a ∙ if_true _ _ _ h) _ at (omega arith) (control-exact voice s at (omega arith)))
+      (λ t a. first_read t a ∙ if_true _ _ _ h) _ at (omega arith) (control_exact voice s at (omega arith)))
       (λ h. exact_if event_seen s _ at (s ! at ≡? 0xFF) _ _
       (λ i. exact_part event_seen s (λ t. system_at t at) _ (at + 1)
       (λ t a. first_read t a ∙ if_false _ _ _ h ∙ if_true _ _ _ i) _ at (omega arith) (system_exact s at (omega arith)))

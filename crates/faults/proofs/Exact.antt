@@ -92,17 +92,17 @@ module _ {R : Type 0} (seen : R → Seen) (s : List ℕ) (whole : List ℕ → R
 
   -- a byte that is missing, and one that is there
   module _ (cut : ℕ → R) (cut-seen : (end : ℕ) → seen (cut end) ≡ fails 20 end) (least : ℕ) where
-    pub exact-cut : (read : List ℕ → R) → read s ≡ cut (length s) → least ≤ length s → Mended (length s) → Exact read least
-    exact-cut read e h m = is_exact read least _ _ e (cut-seen (length s)) (record { past = h; cause = inl (refl, refl); mended = m })
+    pub exact_cut : (read : List ℕ → R) → read s ≡ cut (length s) → least ≤ length s → Mended (length s) → Exact read least
+    exact_cut read e h m = is_exact read least _ _ e (cut-seen (length s)) (record { past = h; cause = inl (refl, refl); mended = m })
 
-    pub exact-byte : (place : ℕ) (read : ℕ → List ℕ → R) → (least ≤ place) × (least ≤ length s)
+    pub exact_byte : (place : ℕ) (read : ℕ → List ℕ → R) → (least ≤ place) × (least ≤ length s)
         → (length s ≤ place → Mended (length s)) → (place < length s → Exact (read (s ! place)) place)
         → Exact (λ t. if length t ≤? place then cut (length t) else read (t ! place) t) least
     unfolding if◌then◌else◌
-    exact-byte place read h missing there =
+    exact_byte place read h missing there =
         let all : List ℕ → R = λ t. if length t ≤? place then cut (length t) else read (t ! place) t in
         by_test (length s ≤? place)
-        (λ i. exact-cut all (if_true (length s ≤? place) _ _ i) h.1 (missing (leb-true _ _ i)))
+        (λ i. exact_cut all (if_true (length s ≤? place) _ _ i) h.1 (missing (leb-true _ _ i)))
         (λ i.
         let here = leb-false (length s) place i in
         exact_as (read (s ! place)) all least place (place + 1) (omega arith)

@@ -12,7 +12,7 @@ use Rattle.model.specs.Words.{Checked.refused}
 use Rattle.model.specs.Item.{body_of}
 use Rattle.model.specs.Beginning.{Beginning, ThreeZeros}
 use Rattle.model.specs.declared.Voice.{Voice}
-use Rattle.faults.proofs.Faulty.{faulty, before-begins, none-begins}
+use Rattle.faults.proofs.Faulty.{faulty, before_begins, none_begins}
 
 -- a body is refused with 11, 20, 21, 22 or 23
 pub refused_with : (voice : Voice) (s : List ℕ) (number place : ℕ) → body_of voice s ≡ refused number place → (number ≡ 11) ⊎ ((20 ≤ number) × (number ≤ 23))
@@ -28,7 +28,7 @@ cut_short voice s place e =
     ⊎_elim (λ h. absurd (omega arith))
     (λ f.
     let last : place ≡ length s = ⊎_elim (λ c. c.1) (λ w. absurd (omega arith)) f.fault.cause in
-    (last, subst (Beginning voice) (take_all place s (omega arith)) (before-begins voice s 20 place f)))
+    (last, subst (Beginning voice) (take_all place s (omega arith)) (before_begins voice s 20 place f)))
     (faulty voice s 20 place e)
 
 -- 21, 22, 23: the first byte that cannot stand
@@ -41,8 +41,8 @@ first_that_cannot_stand voice s number place e high =
     ⊎_elim (λ c. absurd (omega arith))
     (λ w. (
       w.within,
-      before-begins voice s number place f,
-      none-begins voice s number place f w,
+      before_begins voice s number place f,
+      none_begins voice s number place f w,
     ))
     f.fault.cause)
     (faulty voice s number place e)

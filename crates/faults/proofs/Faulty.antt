@@ -48,12 +48,12 @@ module _ (voice : Voice) (s : List ℕ) where
     past : f.at ≤ place
     past = f.fault.past
 
-    reached-in : (count : ℕ) (t : List ℕ) → f.at ≤ count → Agree count s t → Reached voice t f.at
-    reached-in count t h a = reached_stays voice s t f.at (agree_fewer f.at count s t h a) f.reached
+    reached_in : (count : ℕ) (t : List ℕ) → f.at ≤ count → Agree count s t → Reached voice t f.at
+    reached_in count t h a = reached_stays voice s t f.at (agree_fewer f.at count s t h a) f.reached
 
     -- the bytes before the place begin an accepted body
-    pub before-begins : Beginning voice (take place s)
-    before-begins =
+    pub before_begins : Beginning voice (take place s)
+    before_begins =
         let m = f.fault.mended in
         let t = take place s ++ m.rest in
         let c = continues s place f.ahead.2 m.rest in
@@ -62,14 +62,14 @@ module _ (voice : Voice) (s : List ℕ) where
         record {
           rest = m.rest;
           bytes = each_byte m.rest m.bytes;
-          accepted = ended_fine voice t f.at (reached-in place t past c.front) (ends_read voice t f.at (length t) (m.reads t c ∙ ap ends long));
+          accepted = ended_fine voice t f.at (reached_in place t past c.front) (ends_read voice t f.at (length t) (m.reads t c ∙ ap ends long));
         }
 
     module _ (w : Wrong s (λ t. timed_at voice t f.at) (Refused number place) number place) where
       -- what an end mark there, in a body with the same bytes up to that place, says of them
-      zeros-at : (t : List ℕ) → Agree (place + 1) s t → Zeros t f.at
+      zeros_at : (t : List ℕ) → Agree (place + 1) s t → Zeros t f.at
           → (number ≡ 23) × (place ≡ f.at + 2) × (s ! f.at ≡ 0) × (s ! (f.at + 1) ≡ 0) × (s ! place ≡ 0)
-      zeros-at t a z =
+      zeros_at t a z =
           let told : Refused 23 (f.at + 2) ≡ Refused number place =
           sym (zeros_refused voice t f.at (omega (arith, z.room)) z.first z.second z.third) ∙ w.stays t a in
           let last : place ≡ f.at + 2 = cc in (
@@ -81,31 +81,31 @@ module _ (voice : Voice) (s : List ℕ) where
           )
 
       -- one more zero
-      zero-after : List ℕ
-      zero-after = take (place + 1) s ++ (0x00 ∷ [])
+      zero_after : List ℕ
+      zero_after = take (place + 1) s ++ (0x00 ∷ [])
 
-      zero-continues : Continued s (place + 1) (0x00 ∷ []) zero-after
-      unfolding zero-after
-      zero-continues = continues s (place + 1) (omega (arith, w.within)) (0x00 ∷ [])
+      zero_continues : Continued s (place + 1) (0x00 ∷ []) zero_after
+      unfolding zero_after
+      zero_continues = continues s (place + 1) (omega (arith, w.within)) (0x00 ∷ [])
 
-      zero-length : length zero-after ≡ place + 2
-      unfolding zero-after
-      zero-length = omega (arith, length-append (take (place + 1) s) (0x00 ∷ []), length-take-le (place + 1) s (omega (arith, w.within)))
+      zero_length : length zero_after ≡ place + 2
+      unfolding zero_after
+      zero_length = omega (arith, length-append (take (place + 1) s) (0x00 ∷ []), length-take-le (place + 1) s (omega (arith, w.within)))
 
-      zero-refused : item_at voice zero-after f.at ≡ Refused number place → Beginning voice (take (place + 1) s) → ⊥
-      zero-refused e b =
+      zero_refused : item_at voice zero_after f.at ≡ Refused number place → Beginning voice (take (place + 1) s) → ⊥
+      zero_refused e b =
           let t = take (place + 1) s ++ b.rest in
           let a : Agree (place + 1) s t = (continues s (place + 1) (omega (arith, w.within)) b.rest).front in
           go t a b.accepted (refused_or_zeros voice t f.at number place (w.stays t a))
         where
           go : (t : List ℕ) → Agree (place + 1) s t → is_fine (body_of voice t) ≡ true → (item_at voice t f.at ≡ Refused number place) ⊎ Zeros t f.at → ⊥
-          go t a reads (inl q) = refused_not_fine voice t f.at (reached-in (place + 1) t (omega (arith, past)) a) (omega (arith, a.room, past)) number place q reads
+          go t a reads (inl q) = refused_not_fine voice t f.at (reached_in (place + 1) t (omega (arith, past)) a) (omega (arith, a.room, past)) number place q reads
           go t a reads (inr z) =
-              let is = zeros-at t a z in
-              let c = zero-continues in
-              let n = zero-length in
-              let mark : item_at voice zero-after f.at ≡ EndMark (f.at + 4) =
-              zeros_read voice zero-after f.at
+              let is = zeros_at t a z in
+              let c = zero_continues in
+              let n = zero_length in
+              let mark : item_at voice zero_after f.at ≡ EndMark (f.at + 4) =
+              zeros_read voice zero_after f.at
               (record {
                 room = omega arith;
                 first = c.front.same f.at (omega arith) ∙ is.2;
@@ -116,9 +116,9 @@ module _ (voice : Voice) (s : List ℕ) where
               let v : ◌≡◌ {A = ℕ} 0 1 = cc in
               omega arith
 
-      module _ (z : Zeros zero-after f.at) where
-        start-accepted : ((f.at ≡? 0) or is_fine (body_of voice (take f.at s))) ≡ true
-        start-accepted =
+      module _ (z : Zeros zero_after f.at) where
+        start_accepted : ((f.at ≡? 0) or is_fine (body_of voice (take f.at s))) ≡ true
+        start_accepted =
             let front = take f.at s in
             let within : f.at ≤ length s = omega (arith, f.here) in
             let long : length front ≡ f.at = length-take-le f.at s within in
@@ -126,27 +126,27 @@ module _ (voice : Voice) (s : List ℕ) where
             by_test (f.at ≡? 0) (first_true _ _)
             (λ h.
             let some : 0 < length front = omega (arith, eqb-false f.at 0 h) in
-            second_true _ _ h (reached_fine voice front (subst (Reached voice front) (sym long) (reached-in f.at front (omega arith) agreed)) some))
+            second_true _ _ h (reached_fine voice front (subst (Reached voice front) (sym long) (reached_in f.at front (omega arith) agreed)) some))
 
-        zeros-except : (number ≡ 23) × ThreeZeros voice s place × Beginning voice (take (place + 1) s)
-        unfolding zero-after
-        zeros-except =
-            let c = zero-continues in
-            let is = zeros-at zero-after c.front z in
-            let ended : f.at + 4 ≡ length zero-after = omega (arith, zero-length) in (
+        zeros_except : (number ≡ 23) × ThreeZeros voice s place × Beginning voice (take (place + 1) s)
+        unfolding zero_after
+        zeros_except =
+            let c = zero_continues in
+            let is = zeros_at zero_after c.front z in
+            let ended : f.at + 4 ≡ length zero_after = omega (arith, zero_length) in (
               is.0,
-              record { start = f.at; starts = start-accepted; last = is.1; zeros = (is.2, is.3, is.4) },
+              record { start = f.at; starts = start_accepted; last = is.1; zeros = (is.2, is.3, is.4) },
               record {
                 rest = 0x00 ∷ [];
                 bytes = each_byte (0x00 ∷ []) (omega arith);
                 accepted =
-                    ended_fine voice zero-after f.at (reached-in (place + 1) zero-after (omega (arith, past)) c.front)
-                    (ap item_seen (zeros_read voice zero-after f.at z) ∙ ap ends ended);
+                    ended_fine voice zero_after f.at (reached_in (place + 1) zero_after (omega (arith, past)) c.front)
+                    (ap item_seen (zeros_read voice zero_after f.at z) ∙ ap ends ended);
               },
             )
 
       -- with that byte no accepted body begins, unless they are three zeros
-      pub none-begins : ((number ≡ 23) × ThreeZeros voice s place × Beginning voice (take (place + 1) s)) ⊎ (Beginning voice (take (place + 1) s) → ⊥)
-      none-begins =
-          ⊎_elim (λ e. inr (zero-refused e)) (λ z. inl (zeros-except z))
-          (refused_or_zeros voice zero-after f.at number place (w.stays zero-after zero-continues.front))
+      pub none_begins : ((number ≡ 23) × ThreeZeros voice s place × Beginning voice (take (place + 1) s)) ⊎ (Beginning voice (take (place + 1) s) → ⊥)
+      none_begins =
+          ⊎_elim (λ e. inr (zero_refused e)) (λ z. inl (zeros_except z))
+          (refused_or_zeros voice zero_after f.at number place (w.stays zero_after zero_continues.front))

@@ -43,13 +43,13 @@ module _ (s : List ℕ) (at : ℕ) where
   mark_zeros h =
       let past_room = and_right _ _ h in
       let past_first = and_right _ _ past_room in
-      let past-second = and_right _ _ past_first in
+      let past_second = and_right _ _ past_first in
       record {
         room = leb-true _ _ (and_left _ _ h);
         first = eqb-true _ _ (and_left _ _ past_room);
         second = eqb-true _ _ (and_left _ _ past_first);
-        third = eqb-true _ _ (and_left _ _ past-second);
-        fourth = eqb-true _ _ (and_right _ _ past-second);
+        third = eqb-true _ _ (and_left _ _ past_second);
+        fourth = eqb-true _ _ (and_right _ _ past_second);
       }
 
   zeros_mark : Zeros s at → is_end_mark s at ≡ true

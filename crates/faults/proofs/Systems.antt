@@ -13,7 +13,7 @@ use Rattle.model.specs.Event.{closed_at, exclusive_at, system_at}
 use Rattle.model.specs.declared.Event.TheVariants.{Nop, Exclusive}
 use Rattle.model.specs.declared.ReadEvent.TheVariants.{Is, Refused}
 use Rattle.faults.proofs.Agreement.{AreBytes}
-use Rattle.faults.proofs.Exact.{Mended, Exact, exact_ends, exact_wrong, exact_if, exact-byte, exact_part, mended_end}
+use Rattle.faults.proofs.Exact.{Mended, Exact, exact_ends, exact_wrong, exact_if, exact_byte, exact_part, mended_end}
 use Rattle.faults.proofs.Controls.{event_seen}
 
 -- so many zeros, and F7
@@ -68,7 +68,7 @@ module _ (s : List ℕ) (at : ℕ) where
       exact_if event_seen s _ (at + 2) (s ! (at + 2) <? 3) _ _ (λ h. exact_wrong event_seen s _ (at + 2) refl (size_mended (omega arith)) (omega arith))
       (λ h.
       let enough : 3 ≤ s ! (at + 2) = ltb-false _ _ h in
-      exact-byte event_seen s _ (Refused 20) (λ end. refl) (at + 2) (at + 2 + s ! (at + 2))
+      exact_byte event_seen s _ (Refused 20) (λ end. refl) (at + 2) (at + 2 + s ! (at + 2))
       (λ last t. if last ≡? 0xF7 then Is (Exclusive at (s ! (at + 2))) (at + 2 + s ! (at + 2) + 1) else Refused 23 (at + 2 + s ! (at + 2))) (omega arith)
       (λ past. ending_mended (length s) room past (omega arith) enough)
       (λ more. exact_if event_seen s _ (at + 2 + s ! (at + 2)) (s ! (at + 2 + s ! (at + 2)) ≡? 0xF7) _ _
@@ -79,7 +79,7 @@ module _ (s : List ℕ) (at : ℕ) where
   exclusive_exact : at + 2 ≤ length s → Exact event_seen s (λ t. exclusive_at t at) (λ t. exclusive_at t at) (at + 2)
   unfolding exclusive_at
   exclusive_exact within =
-      exact-byte event_seen s _ (Refused 20) (λ end. refl) (at + 2) (at + 2) (λ size t. closed_at t at size) (omega arith)
+      exact_byte event_seen s _ (Refused 20) (λ end. refl) (at + 2) (at + 2) (λ size t. closed_at t at size) (omega arith)
       (mended_end event_seen s _ (at + 2) within (size_mended within)) closed_exact
 
   system_mended : at + 1 ≤ length s → Mended event_seen s (λ t. system_at t at) (at + 1)
@@ -103,7 +103,7 @@ module _ (s : List ℕ) (at : ℕ) where
   pub system_exact : at + 1 ≤ length s → Exact event_seen s (λ t. system_at t at) (λ t. system_at t at) (at + 1)
   unfolding system_at
   system_exact within =
-      exact-byte event_seen s _ (Refused 20) (λ end. refl) (at + 1) (at + 1)
+      exact_byte event_seen s _ (Refused 20) (λ end. refl) (at + 1) (at + 1)
       (λ second t. if second ≡? 0x00 then Is Nop (at + 2) else if second ≡? 0xF0 then exclusive_at t at else Refused 22 (at + 1)) (omega arith)
       (mended_end event_seen s _ (at + 1) within (system_mended within))
       (λ room. exact_if event_seen s _ (at + 1) (s ! (at + 1) ≡? 0x00) _ _ (λ h. exact_ends event_seen s _ (at + 1) refl (omega arith))

@@ -53,37 +53,37 @@ module _ (s : List ℕ) (items : Items) (spans : List Span) (letters : List ℕ)
     over_room = refused_room _ 18 header over l
 
   module _ (within : measure.bytes ≤ 65536) where
-    pub measured-shapes : AllShaped s items spans measure.shapes letters
-    measured-shapes = m.shaped within
+    pub measured_shapes : AllShaped s items spans measure.shapes letters
+    measured_shapes = m.shaped within
 
     module _ (l : List ℕ) where
       module _ (header : ℕ) (small : length l < measure.bytes) where
         short : fitted header (length l) whole ≡ refused 18 header
         short = no_room header (length l) whole (omega (arith, m.size within)) (omega (arith, m.size within))
 
-        pub short-answer : flatten.Refused 18 header ≡ flatten_answer (fitted header (length l) (order_bytes s items spans 0 0 letters))
-        short-answer = refused_answer _ 18 header short
+        pub short_answer : flatten.Refused 18 header ≡ flatten_answer (fitted header (length l) (order_bytes s items spans 0 0 letters))
+        short_answer = refused_answer _ 18 header short
 
         pub short_room : l ≡ flatten_room l (fitted header (length l) (order_bytes s items spans 0 0 letters))
         short_room = refused_room _ 18 header short l
 
       module _ (enough : measure.bytes ≤ length l) where
-        pub fits-room : length (order_bytes s items spans 0 0 letters) ≤ length l
-        fits-room = omega (arith, m.size within)
+        pub fits_room : length (order_bytes s items spans 0 0 letters) ≤ length l
+        fits_room = omega (arith, m.size within)
 
         module _ (header : ℕ) where
           fits : fitted header (length l) whole ≡ fine whole
-          fits = all_fits header (length l) whole (omega (arith, m.size within)) fits-room
+          fits = all_fits header (length l) whole (omega (arith, m.size within)) fits_room
 
-          pub fits-answer : (n : ℕ) → n ≡ length (order_bytes s items spans 0 0 letters)
+          pub fits_answer : (n : ℕ) → n ≡ length (order_bytes s items spans 0 0 letters)
               → flatten.Bytes n ≡ flatten_answer (fitted header (length l) (order_bytes s items spans 0 0 letters))
           unfolding flatten_answer
-          fits-answer n q = ap (λ (k : ℕ). flatten.Bytes k) q ∙ ap flatten_answer (sym fits)
+          fits_answer n q = ap (λ (k : ℕ). flatten.Bytes k) q ∙ ap flatten_answer (sym fits)
 
-          pub fits-written : (k : List ℕ) → k ≡ sets l 0 (order_bytes s items spans 0 0 letters)
+          pub fits_written : (k : List ℕ) → k ≡ sets l 0 (order_bytes s items spans 0 0 letters)
               → k ≡ flatten_room l (fitted header (length l) (order_bytes s items spans 0 0 letters))
           unfolding flatten_room memory_after written_over
-          fits-written k q =
-              q ∙ sets-eq whole l 0 (omega (arith, fits-room)) ∙ ap (λ (n : ℕ). whole ++ drop n l) (zero-add (length whole)) ∙ ap (flatten_room l) (sym fits)
+          fits_written k q =
+              q ∙ sets-eq whole l 0 (omega (arith, fits_room)) ∙ ap (λ (n : ℕ). whole ++ drop n l) (zero-add (length whole)) ∙ ap (flatten_room l) (sym fits)
 
-pub ruleset flattened_order = (over_answer, over_room, measured-shapes, short_enough, short-answer, short_room, fits-room, fits-answer, fits-written)
+pub ruleset flattened_order = (over_answer, over_room, measured_shapes, short_enough, short_answer, short_room, fits_room, fits_answer, fits_written)

@@ -21,7 +21,7 @@ use Rattle.model.specs.declared.FlattenAnswer.{FlattenAnswer}
 use Rattle.model.specs.declared.FlattenAnswer.TheVariants as flatten
 use Rattle.model.proofs.Tests.{by_test}
 use Rattle.reading.specs.Stages.{file_answer}
-use Rattle.reading.proofs.Stated.{stated_past, stated_over, stated-within, stated_small}
+use Rattle.reading.proofs.Stated.{stated_past, stated_over, stated_within, stated_small}
 use Rattle.playing.specs.Performing.{bytes_in, Open, Opens, track_named, row_performed}
 use Rattle.playing.proofs.Operations.{bodies_ready}
 use Rattle.playing.proofs.RowPerformed.{stated_fine, stated_refused, opened_track, row_inside, no_track}
@@ -94,10 +94,10 @@ module _ (s : List ℕ) (row : ℕ) (o : OpenedTrack) (opens : Opens s (track_na
         track_flattened s room bodies found.0 found.2 ∙ sym (order_flattened found.0 room (play_order found.0))
         ∙ ap (λ (c : Checked Performance). c >>= roomy room) (sym found.1)
 
-    pub row-answer : (r : FlattenAnswer)
+    pub row_answer : (r : FlattenAnswer)
         → r ≡ flatten_answer (bodies_flattened bodies.voice bodies.phrases bodies.header room (bytes_in s bodies.sequence) (bytes_in s bodies.seek))
         → r ≡ flatten_answer (row_flattened room (contents_of s) row)
-    row-answer = same_answer _ _ row_is
+    row_answer = same_answer _ _ row_is
 
     pub row_room : (l m : List ℕ)
         → m ≡ flatten_room l (bodies_flattened bodies.voice bodies.phrases bodies.header room (bytes_in s bodies.sequence) (bytes_in s bodies.seek))
@@ -108,13 +108,13 @@ module _ (s : List ℕ) (row : ℕ) (o : OpenedTrack) (opens : Opens s (track_na
     no_row : row_flattened room (contents_of s) row ≡ refused 16 0
     no_row = row_refused room row (contents_of s) 16 0 (no_track s row o opens ok e)
 
-    pub no-row-answer : flatten.Refused 16 0 ≡ flatten_answer (row_flattened room (contents_of s) row)
-    no-row-answer = refused_answer _ 16 0 no_row
+    pub no_row_answer : flatten.Refused 16 0 ≡ flatten_answer (row_flattened room (contents_of s) row)
+    no_row_answer = refused_answer _ 16 0 no_row
 
     pub no_row_room : (l : List ℕ) → l ≡ flatten_room l (row_flattened room (contents_of s) row)
     no_row_room = refused_room _ 16 0 no_row
 
-pub ruleset rows_flattened = (row_inside, row-answer, row_room, no-row-answer, no_row_room)
+pub ruleset rows_flattened = (row_inside, row_answer, row_room, no_row_answer, no_row_room)
 
 -- THE STATED BYTES
 
@@ -159,14 +159,14 @@ module _ (buffer : List ℕ) (n row room : ℕ) where
 
   module _ (h : n ≤ length buffer) (k : n ≤ 65536) where
     within : row_flattened room (contents_of (take n buffer)) row ≡ flatten_of buffer n row room
-    within = sym (flatten_is buffer n row room (contents_of (take n buffer)) (stated-within buffer n h k))
+    within = sym (flatten_is buffer n row room (contents_of (take n buffer)) (stated_within buffer n h k))
 
-    pub whole-answer : (r : FlattenAnswer) → r ≡ flatten_answer (row_flattened room (contents_of (take n buffer)) row)
+    pub whole_answer : (r : FlattenAnswer) → r ≡ flatten_answer (row_flattened room (contents_of (take n buffer)) row)
         → r ≡ flatten_answer (flatten_of buffer n row room)
-    whole-answer = same_answer _ _ within
+    whole_answer = same_answer _ _ within
 
     pub whole_room : (l m : List ℕ) → m ≡ flatten_room l (row_flattened room (contents_of (take n buffer)) row)
         → m ≡ flatten_room l (flatten_of buffer n row room)
     whole_room = same_room _ _ within
 
-pub ruleset buffers_flattened = (past_answer, past_room, over_answer, over_room, stated_small, whole-answer, whole_room)
+pub ruleset buffers_flattened = (past_answer, past_room, over_answer, over_room, stated_small, whole_answer, whole_room)

@@ -70,15 +70,15 @@ module _ (s : List ℕ) (items : Items) (spans : List Span) (letters : List ℕ)
   abbrev rows_next : List (At Event)
   rows_next = span_rows items (span_at spans (letters ! i)) before
 
-  abbrev left-then : List ℕ
-  left-then = order_bytes s items spans (part_last s past rows_next) (before + (span_at spans (letters ! i)).lasts) (drop (i + 1) letters)
+  abbrev left_then : List ℕ
+  left_then = order_bytes s items spans (part_last s past rows_next) (before + (span_at spans (letters ! i)).lasts) (drop (i + 1) letters)
 
-  order_next : order_bytes s items spans past before (drop i letters) ≡ part_bytes s past rows_next ++ left-then
+  order_next : order_bytes s items spans past before (drop i letters) ≡ part_bytes s past rows_next ++ left_then
   order_next =
       ap (order_bytes s items spans past before) (letter_next letters i here) ∙ order_first s items spans past before (letters ! i) (drop (i + 1) letters)
 
-  pub order_next_length : length (order_bytes s items spans past before (drop i letters)) ≡ length (part_bytes s past rows_next) + length left-then
-  order_next_length = ap length order_next ∙ length-append (part_bytes s past rows_next) left-then
+  pub order_next_length : length (order_bytes s items spans past before (drop i letters)) ≡ length (part_bytes s past rows_next) + length left_then
+  order_next_length = ap length order_next ∙ length-append (part_bytes s past rows_next) left_then
 
 module _ (voice : Voice) (s : List ℕ) (spans : List Span) (shapes : List Shape) (letters : List ℕ) where
   abbrev items : Items
@@ -122,29 +122,29 @@ module _ (voice : Voice) (s : List ℕ) (spans : List Span) (shapes : List Shape
       }
 
   module _ (l out places : List ℕ) (at before past i : ℕ) (w : Storing l out places at before past i) where
-    pub store-slot : letters ! i < 256
-    store-slot = w.bytes i
+    pub store_slot : letters ! i < 256
+    store_slot = w.bytes i
 
-    pub store-slot-fits : Fits w64 (letters ! i)
-    store-slot-fits = record { fits = omega (arith, w.bytes i) }
+    pub store_slot_fits : Fits w64 (letters ! i)
+    store_slot_fits = record { fits = omega (arith, w.bytes i) }
 
-    pub store-span-fits : Fits w64 (letters ! i * 40)
-    store-span-fits = record { fits = omega (arith, w.bytes i) }
+    pub store_span_fits : Fits w64 (letters ! i * 40)
+    store_span_fits = record { fits = omega (arith, w.bytes i) }
 
-    pub store-shape-fits : Fits w64 (letters ! i * 32)
-    store-shape-fits = record { fits = omega (arith, w.bytes i) }
+    pub store_shape_fits : Fits w64 (letters ! i * 32)
+    store_shape_fits = record { fits = omega (arith, w.bytes i) }
 
-    pub store-place-fits : Fits w64 (letters ! i * 8)
-    store-place-fits = record { fits = omega (arith, w.bytes i) }
+    pub store_place_fits : Fits w64 (letters ! i * 8)
+    store_place_fits = record { fits = omega (arith, w.bytes i) }
 
-    pub store-slots : letters ! i < length places
-    store-slots = omega (arith, w.bytes i, w.slots)
+    pub store_slots : letters ! i < length places
+    store_slots = omega (arith, w.bytes i, w.slots)
 
-    pub store-known : WrittenWhereKnown (span_bytes s (items_of voice s) (span_at spans (letters ! i))) (places ! (letters ! i)) out at
-    store-known = w.known (letters ! i) (w.bytes i)
+    pub store_known : WrittenWhereKnown (span_bytes s (items_of voice s) (span_at spans (letters ! i))) (places ! (letters ! i)) out at
+    store_known = w.known (letters ! i) (w.bytes i)
 
-    pub store-early : past ≤ before
-    store-early = w.early
+    pub store_early : past ≤ before
+    store_early = w.early
 
     -- after the last letter
     module _ (over : length letters ≤ i) where
@@ -154,18 +154,18 @@ module _ (voice : Voice) (s : List ℕ) (spans : List Span) (shapes : List Shape
       left_is : order_bytes s items spans past before (drop i letters) ≡ bytes_of handy_phone (rest handy_phone (before - past)) ++ (0 ∷ 0 ∷ 0 ∷ 0 ∷ [])
       left_is = ap (order_bytes s items spans past before) none_left ∙ order_none s items spans past before
 
-      left-long : length (order_bytes s items spans past before (drop i letters)) ≡ length (bytes_of handy_phone (rest handy_phone (before - past))) + 4
-      left-long = ap (λ (l : List ℕ). length (order_bytes s items spans past before l)) none_left ∙ order_none_length s items spans past before
+      left_long : length (order_bytes s items spans past before (drop i letters)) ≡ length (bytes_of handy_phone (rest handy_phone (before - past))) + 4
+      left_long = ap (λ (l : List ℕ). length (order_bytes s items spans past before l)) none_left ∙ order_none_length s items spans past before
 
-      pub store-rest-room : at + length (bytes_of handy_phone (rest handy_phone (before - past))) ≤ length out
-      store-rest-room = omega (arith, left-long, w.size, w.room)
+      pub store_rest_room : at + length (bytes_of handy_phone (rest handy_phone (before - past))) ≤ length out
+      store_rest_room = omega (arith, left_long, w.size, w.room)
 
       module _ (end : ℕ) (rested : end ≡ at + length (bytes_of handy_phone (rest handy_phone (before - past)))) where
-        pub store-mark-room : (m : List ℕ) → length m ≡ length out → end + 4 ≤ length m
-        store-mark-room m kept = omega (arith, left-long, w.size, w.room)
+        pub store_mark_room : (m : List ℕ) → length m ≡ length out → end + 4 ≤ length m
+        store_mark_room m kept = omega (arith, left_long, w.size, w.room)
 
-        pub store-size : (n : ℕ) → n ≡ end + 4 → n ≡ length (order_bytes s (items_of voice s) spans 0 0 letters)
-        store-size n e = omega (arith, left-long, w.size)
+        pub store_size : (n : ℕ) → n ≡ end + 4 → n ≡ length (order_bytes s (items_of voice s) spans 0 0 letters)
+        store_size n e = omega (arith, left_long, w.size)
 
         pub store_ends : (m k : List ℕ) → m ≡ sets out at (bytes_of handy_phone (rest handy_phone (before - past))) → k ≡ sets m end (0 ∷ 0 ∷ 0 ∷ 0 ∷ [])
             → k ≡ sets l 0 (order_bytes s (items_of voice s) spans 0 0 letters)
@@ -176,74 +176,74 @@ module _ (voice : Voice) (s : List ℕ) (spans : List Span) (shapes : List Shape
 
     -- before it
     module _ (here : i < length letters) where
-      abbrev span-here : Span
-      span-here = span_at spans (letters ! i)
+      abbrev span_here : Span
+      span_here = span_at spans (letters ! i)
 
-      abbrev rows-here : List (At Event)
-      rows-here = span_rows (items_of voice s) (span_at spans (letters ! i)) before
+      abbrev rows_here : List (At Event)
+      rows_here = span_rows (items_of voice s) (span_at spans (letters ! i)) before
 
-      lasts-next : lasts_together spans (drop i letters) ≡ span-here.lasts + lasts_together spans (drop (i + 1) letters)
+      lasts_next : lasts_together spans (drop i letters) ≡ span_here.lasts + lasts_together spans (drop (i + 1) letters)
       unfolding lasts_together
-      lasts-next = ap (lasts_together spans) (letter_next letters i here)
+      lasts_next = ap (lasts_together spans) (letter_next letters i here)
 
-      pub store-playable : Playable (items_of voice s) (length s) (span_at spans (letters ! i))
-      store-playable = w.playable i here
+      pub store_playable : Playable (items_of voice s) (length s) (span_at spans (letters ! i))
+      store_playable = w.playable i here
 
-      pub store-shape : shape_at shapes (letters ! i) ≡ span_shape s (items_of voice s) (span_at spans (letters ! i))
-      store-shape = w.shaped i here
+      pub store_shape : shape_at shapes (letters ! i) ≡ span_shape s (items_of voice s) (span_at spans (letters ! i))
+      store_shape = w.shaped i here
 
-      pub store-rises : SpanRises (items_of voice s) (span_at spans (letters ! i))
-      store-rises = w.rises i here
+      pub store_rises : SpanRises (items_of voice s) (span_at spans (letters ! i))
+      store_rises = w.rises i here
 
-      pub store-late : before + (span_at spans (letters ! i)).lasts ≤ 4611686018427387904
-      store-late = omega (arith, w.late, lasts-next)
+      pub store_late : before + (span_at spans (letters ! i)).lasts ≤ 4611686018427387904
+      store_late = omega (arith, w.late, lasts_next)
 
-      pub store-room : at + length (part_bytes s past (span_rows (items_of voice s) (span_at spans (letters ! i)) before)) ≤ length out
-      store-room = omega (arith, order_next_length s items spans letters past before i here, w.size, w.room)
+      pub store_room : at + length (part_bytes s past (span_rows (items_of voice s) (span_at spans (letters ! i)) before)) ≤ length out
+      store_room = omega (arith, order_next_length s items spans letters past before i here, w.size, w.room)
 
-      pub store-before-fits : Fits w64 (before + (span_at spans (letters ! i)).lasts)
-      store-before-fits = record { fits = omega (arith, w.late, lasts-next) }
+      pub store_before_fits : Fits w64 (before + (span_at spans (letters ! i)).lasts)
+      store_before_fits = record { fits = omega (arith, w.late, lasts_next) }
 
-      pub store-nears : Fits w64 (i + 1)
-      store-nears = record { fits = omega (arith, w.listed) }
+      pub store_nears : Fits w64 (i + 1)
+      store_nears = record { fits = omega (arith, w.listed) }
 
       module _ (told_at : ℕ) (a : told_at ≡ at + length (part_bytes s past (span_rows (items_of voice s) (span_at spans (letters ! i)) before))) where
-        shape-bytes : (shape_at shapes (letters ! i)).bytes ≡ (span_shape s items span-here).bytes
-        shape-bytes = ap (λ (x : Shape). x.bytes) store-shape
+        shape_bytes : (shape_at shapes (letters ! i)).bytes ≡ (span_shape s items span_here).bytes
+        shape_bytes = ap (λ (x : Shape). x.bytes) store_shape
 
-        pub store-bytes-low : (shape_at shapes (letters ! i)).bytes ≤ told_at
-        store-bytes-low = omega (arith, shape-bytes, a, span_bytes_within s items span-here before past)
+        pub store_bytes_low : (shape_at shapes (letters ! i)).bytes ≤ told_at
+        store_bytes_low = omega (arith, shape_bytes, a, span_bytes_within s items span_here before past)
 
         -- where a span's bytes are known to stand, one letter on
-        still-known : (slot : ℕ) → slot < 256
-            → WrittenWhereKnown (span_bytes s items (span_at spans slot)) (places ! slot) (sets out at (part_bytes s past rows-here)) told_at
-        still-known slot small =
-            written_kept (span_bytes s items (span_at spans slot)) (places ! slot) out at (part_bytes s past rows-here) told_at (omega (arith, a)) (w.known slot small)
+        still_known : (slot : ℕ) → slot < 256
+            → WrittenWhereKnown (span_bytes s items (span_at spans slot)) (places ! slot) (sets out at (part_bytes s past rows_here)) told_at
+        still_known slot small =
+            written_kept (span_bytes s items (span_at spans slot)) (places ! slot) out at (part_bytes s past rows_here) told_at (omega (arith, a)) (w.known slot small)
 
-        now-known : Written (span_bytes s items span-here) (told_at - (shape_at shapes (letters ! i)).bytes) (sets out at (part_bytes s past rows-here)) told_at
-        now-known = rw (shape-bytes, a) (span_written s items span-here before past out at store-room)
+        now_known : Written (span_bytes s items span_here) (told_at - (shape_at shapes (letters ! i)).bytes) (sets out at (part_bytes s past rows_here)) told_at
+        now_known = rw (shape_bytes, a) (span_written s items span_here before past out at store_room)
 
         known_next : (slot : ℕ) → slot < 256
             → WrittenWhereKnown (span_bytes s items (span_at spans slot)) (set places (letters ! i) (told_at - (shape_at shapes (letters ! i)).bytes) ! slot)
-            (sets out at (part_bytes s past rows-here)) told_at
+            (sets out at (part_bytes s past rows_here)) told_at
         known_next slot small =
             let place = told_at - (shape_at shapes (letters ! i)).bytes in
             by_test (slot ≡? letters ! i)
             (λ t. let e = eqb-true slot (letters ! i) t in
-            rw (e, get_or-set_same places (letters ! i) place 0 store-slots) (λ known. now-known))
-            (λ t. let e = eqb-false slot (letters ! i) t in rw (get_or-set_other places (letters ! i) slot place 0 e) (still-known slot small))
+            rw (e, get_or-set_same places (letters ! i) place 0 store_slots) (λ known. now_known))
+            (λ t. let e = eqb-false slot (letters ! i) t in rw (get_or-set_other places (letters ! i) slot place 0 e) (still_known slot small))
 
-        pub store-turns : (m : List ℕ) (told-past : ℕ)
+        pub store_turns : (m : List ℕ) (told-past : ℕ)
             → told-past ≡ part_last s past (span_rows (items_of voice s) (span_at spans (letters ! i)) before)
             → m ≡ sets out at (part_bytes s past (span_rows (items_of voice s) (span_at spans (letters ! i)) before))
             → Storing l m (set places (letters ! i) (told_at - (shape_at shapes (letters ! i)).bytes)) told_at (before + (span_at spans (letters ! i)).lasts) told-past (i + 1)
-        store-turns m told-past p e =
-            let long : length m ≡ length out = ap length e ∙ length-sets out at (part_bytes s past rows-here) in
-            let later : ℕ → List ℕ = λ last. order_bytes s items spans last (before + span-here.lasts) (drop (i + 1) letters) in
+        store_turns m told-past p e =
+            let long : length m ≡ length out = ap length e ∙ length-sets out at (part_bytes s past rows_here) in
+            let later : ℕ → List ℕ = λ last. order_bytes s items spans last (before + span_here.lasts) (drop (i + 1) letters) in
             let stored : sets m told_at (later told-past) ≡ sets out at (order_bytes s items spans past before (drop i letters)) =
             ap (λ (x : ℕ). sets m told_at (later x)) p
-            ∙ ap₂ (λ (x : List ℕ) (n : ℕ). sets x n (later (part_last s past rows-here))) e a
-            ∙ sets_append out at (part_bytes s past rows-here) (later (part_last s past rows-here))
+            ∙ ap₂ (λ (x : List ℕ) (n : ℕ). sets x n (later (part_last s past rows_here))) e a
+            ∙ sets_append out at (part_bytes s past rows_here) (later (part_last s past rows_here))
             ∙ ap (sets out at) (sym (order_next s items spans letters past before i here)) in
             let sized : told_at + length (later told-past) ≡ at + length (order_bytes s items spans past before (drop i letters)) =
             ap₂ (λ (n x : ℕ). n + length (later x)) a p ∙ omega (arith, order_next_length s items spans letters past before i here) in
@@ -256,8 +256,8 @@ module _ (voice : Voice) (s : List ℕ) (spans : List Span) (shapes : List Shape
               known = λ slot small. rw e (known_next slot small);
               listed = w.listed;
               within = omega arith;
-              early = omega (arith, p, last_within s past before (before + span-here.lasts) rows-here w.early (w.rises i here before));
-              late = omega (arith, w.late, lasts-next);
+              early = omega (arith, p, last_within s past before (before + span_here.lasts) rows_here w.early (w.rises i here before));
+              late = omega (arith, w.late, lasts_next);
               same = long ∙ w.same;
               room = omega (arith, w.room, long);
               size = sized ∙ w.size;
@@ -265,25 +265,25 @@ module _ (voice : Voice) (s : List ℕ) (spans : List Span) (shapes : List Shape
             }
 
 pub ruleset storing = (
-  store-slot,
-  store-slot-fits,
-  store-span-fits,
-  store-shape-fits,
-  store-place-fits,
-  store-slots,
-  store-known,
-  store-early,
-  store-rest-room,
-  store-mark-room,
-  store-size,
+  store_slot,
+  store_slot_fits,
+  store_span_fits,
+  store_shape_fits,
+  store_place_fits,
+  store_slots,
+  store_known,
+  store_early,
+  store_rest_room,
+  store_mark_room,
+  store_size,
   store_ends,
-  store-playable,
-  store-shape,
-  store-rises,
-  store-late,
-  store-room,
-  store-before-fits,
-  store-nears,
-  store-bytes-low,
-  store-turns,
+  store_playable,
+  store_shape,
+  store_rises,
+  store_late,
+  store_room,
+  store_before_fits,
+  store_nears,
+  store_bytes_low,
+  store_turns,
 )

@@ -77,12 +77,12 @@ module _ (s : List ℕ) (before start : ℕ) where
 
   -- what the shape of the rows with nothing before tells of the rows
   module _ (lasts past : ℕ) where
-    messages-bytes : (messages : List (At Event)) → (shape_of lasts (told s (rows_at 0 messages))).heard ≡ true
+    messages_bytes : (messages : List (At Event)) → (shape_of lasts (told s (rows_at 0 messages))).heard ≡ true
         → part_bytes s past (rows_at before messages)
         ≡ gap_bytes (before + (shape_of lasts (told s (rows_at 0 messages))).lead - past) ++ bytes_after_gap (told s (rows_at 0 messages))
     unfolding shape_of told part_bytes bytes_after_gap
-    messages-bytes [] h = absurd (subst T (sym h) tt)
-    messages-bytes (at ∷ messages) h =
+    messages_bytes [] h = absurd (subst T (sym h) tt)
+    messages_bytes (at ∷ messages) h =
         let step = at.step - start in
         let what = content_of s at.event in
         let others = plain_part (0 + step) (told s (rows_at 0 messages)) in
@@ -91,19 +91,19 @@ module _ (s : List ℕ) (before start : ℕ) where
         ∙ ap (λ (items : List (Item Content)). gap_bytes (before + step - past) ++ (content_bytes what ++ bytes_of handy_phone items)) same
         ∙ ap (λ (n : ℕ). gap_bytes (before + n - past) ++ (content_bytes what ++ bytes_of handy_phone others)) (sym (zero-add step))
 
-    messages-tail : (messages : List (At Event)) → (shape_of lasts (told s (rows_at 0 messages))).heard ≡ true
+    messages_tail : (messages : List (At Event)) → (shape_of lasts (told s (rows_at 0 messages))).heard ≡ true
         → before + lasts - part_last s past (rows_at before messages) ≡ (shape_of lasts (told s (rows_at 0 messages))).tail
     unfolding shape_of told part_last last_step
-    messages-tail [] h = absurd (subst T (sym h) tt)
-    messages-tail (at ∷ messages) h =
+    messages_tail [] h = absurd (subst T (sym h) tt)
+    messages_tail (at ∷ messages) h =
         let step = at.step - start in
         let last = later_last step messages ∙ ap (λ (n : ℕ). before + last_step n (told s (rows_at 0 messages))) (sym (zero-add step)) in
         omega (arith, last)
 
-    messages-silent : (messages : List (At Event)) → (shape_of lasts (told s (rows_at 0 messages))).heard ≡ false → rows_at before messages ≡ []
+    messages_silent : (messages : List (At Event)) → (shape_of lasts (told s (rows_at 0 messages))).heard ≡ false → rows_at before messages ≡ []
     unfolding shape_of told
-    messages-silent [] h = refl
-    messages-silent (at ∷ messages) h = absurd (subst T h tt)
+    messages_silent [] h = refl
+    messages_silent (at ∷ messages) h = absurd (subst T h tt)
 
 -- the bytes after the gap to the first message are as many as the shape says
 after_gap_counted : (lasts : ℕ) (messages : List (At Content)) → length (bytes_after_gap messages) ≡ (shape_of lasts messages).bytes
@@ -121,26 +121,26 @@ module _ (s : List ℕ) (items : Items) (span : Span) (before past : ℕ) where
 
   module _ (heard : (span_shape s items span).heard ≡ true) where
     -- THE BYTES of a span's messages: the gap before the first, and those that are the same wherever the span is played
-    pub span-bytes : part_bytes s past (span_rows items span before) ≡ gap_bytes (before + (span_shape s items span).lead - past) ++ span_bytes s items span
+    pub span_bytes_lem : part_bytes s past (span_rows items span before) ≡ gap_bytes (before + (span_shape s items span).lead - past) ++ span_bytes s items span
     unfolding span_shape span_bytes span_rows
-    span-bytes = messages-bytes s before span.start span.lasts past messages heard
+    span_bytes_lem = messages_bytes s before span.start span.lasts past messages heard
 
     -- how many they are
-    pub span-size : length (part_bytes s past (span_rows items span before))
+    pub span_size : length (part_bytes s past (span_rows items span before))
         ≡ length (gap_bytes (before + (span_shape s items span).lead - past)) + (span_shape s items span).bytes
-    span-size =
+    span_size =
         let gap = before + (span_shape s items span).lead - past in
-        ap length span-bytes ∙ omega (arith, length-append (gap_bytes gap) (span_bytes s items span), span_counted s items span)
+        ap length span_bytes_lem ∙ omega (arith, length-append (gap_bytes gap) (span_bytes s items span), span_counted s items span)
 
     -- from the last message to the end of the span
     pub span_tail : before + span.lasts - part_last s past (span_rows items span before) ≡ (span_shape s items span).tail
     unfolding span_shape span_rows
-    span_tail = messages-tail s before span.start span.lasts past messages heard
+    span_tail = messages_tail s before span.start span.lasts past messages heard
 
   -- a span without a message
   pub span_silent : (span_shape s items span).heard ≡ false → span_rows items span before ≡ []
   unfolding span_shape span_rows
-  span_silent h = messages-silent s before span.start span.lasts past messages h
+  span_silent h = messages_silent s before span.start span.lasts past messages h
 
 none_written : (s : List ℕ) (items : Items) (span : Span) (before past : ℕ) → (span_shape s items span).heard ≡ false
     → part_bytes s past (span_rows items span before) ≡ span_bytes s items span
@@ -151,7 +151,7 @@ none_written s items span before past h = rw (span_silent s items span before pa
 pub span_ends : (s : List ℕ) (items : Items) (span : Span) (before past : ℕ)
     → (front : List ℕ) × (part_bytes s past (span_rows items span before) ≡ front ++ span_bytes s items span)
 span_ends s items span before past =
-    by_test (span_shape s items span).heard (λ h. (gap_bytes _, span-bytes s items span before past h)) (λ h. ([], none_written s items span before past h))
+    by_test (span_shape s items span).heard (λ h. (gap_bytes _, span_bytes_lem s items span before past h)) (λ h. ([], none_written s items span before past h))
 
 -- what a shape says lies within its span
 lead_within : (s : List ℕ) (lasts : ℕ) (rows : List (At Event)) → Rising 0 lasts rows → (shape_of lasts (told s rows)).lead ≤ lasts

@@ -23,9 +23,9 @@ use Rattle.model.specs.declared.Span.{Span}
 use Rattle.writing.specs.Parts.{event_size}
 use Rattle.writing.proofs.Contents.{event_length_lem}
 use Rattle.inverse.proofs.Fitting.{read_fits}
-use Rattle.items.proofs.Addresses.{timed-nears, mark-nears}
+use Rattle.items.proofs.Addresses.{timed_nears, mark_nears}
 use Rattle.sections.specs.Spans.{span_rows, Playable}
-use Rattle.sections.proofs.Ahead.{Ahead, Onward, next_rows, message_next, nop_next, mark_next, playable_begins, span_begins, in_time, in_place, none_ahead, timed-late, timed-onward, mark-onward, never_refused}
+use Rattle.sections.proofs.Ahead.{Ahead, Onward, next_rows, message_next, nop_next, mark_next, playable_begins, span_begins, in_time, in_place, none_ahead, timed_late, timed_onward, mark_onward, never_refused}
 use Rattle.flattening.specs.Parts.{gap_bytes, span_shape, silence, joined, shaped}
 use Rattle.flattening.proofs.Shapes.{outlined, outline_shapes}
 
@@ -90,15 +90,15 @@ module _ (voice : Voice) (s : List ℕ) (span : Span) where
     over shape e none = e ∙ ap (shaped span.lasts) (sym (ap (outlined s outline) none ∙ none_joined s outline)) ∙ r.whole
 
     -- a body has so few bytes that a shape's can be counted on
-    pub shape-slight : (shape : Shape) → shape ≡ shaped span.lasts outline → shape.bytes ≤ 70915304128512
+    pub shape_slight : (shape : Shape) → shape ≡ shaped span.lasts outline → shape.bytes ≤ 70915304128512
     unfolding shaped
-    shape-slight shape e = omega (arith, ap (λ (x : Shape). x.bytes) e, r.small, in_place voice s span.start place time r.ahead)
+    shape_slight shape e = omega (arith, ap (λ (x : Shape). x.bytes) e, r.small, in_place voice s span.start place time r.ahead)
 
-    pub shape-full : (shape : Shape) → shape ≡ shaped span.lasts outline → count ≡ 0 → shape ≡ span_shape s (items_of voice s) span
-    shape-full shape e none = over shape e (rw none refl)
+    pub shape_full : (shape : Shape) → shape ≡ shaped span.lasts outline → count ≡ 0 → shape ≡ span_shape s (items_of voice s) span
+    shape_full shape e none = over shape e (rw none refl)
 
-    pub shape-ends : (shape : Shape) → shape ≡ shaped span.lasts outline → length s ≤ place → shape ≡ span_shape s (items_of voice s) span
-    shape-ends shape e past = over shape e (none_ahead voice s span.start place time r.ahead 0 count past)
+    pub shape_ends : (shape : Shape) → shape ≡ shaped span.lasts outline → length s ≤ place → shape ≡ span_shape s (items_of voice s) span
+    shape_ends shape e past = over shape e (none_ahead voice s span.start place time r.ahead 0 count past)
 
     -- past an item that is no message
     silent : (next later : ℕ) (a : Ahead voice s span.start next later) → place ≤ next → time ≤ later
@@ -114,23 +114,23 @@ module _ (voice : Voice) (s : List ℕ) (span : Span) where
     module _ (i : ReadItem) (is : i ≡ item_at voice s place) where
       module _ (duration next : ℕ) (event : Event) (e : i ≡ Timed duration event next) where
         onward : Onward voice s span.start place time r.ahead (timed duration event) next (time + duration)
-        onward = timed-onward voice s span.start place time r.ahead duration next event (sym is ∙ e)
+        onward = timed_onward voice s span.start place time r.ahead duration next event (sym is ∙ e)
 
-        pub shape-late : span.start ≤ time + duration
-        shape-late = timed-late voice s span.start place time r.ahead duration next event (sym is ∙ e)
+        pub shape_late : span.start ≤ time + duration
+        shape_late = timed_late voice s span.start place time r.ahead duration next event (sym is ∙ e)
 
-        pub shape-few : outline.bytes ≤ 4611686018427387904
-        shape-few = omega (arith, r.small, in_place voice s span.start place time r.ahead)
+        pub shape_few : outline.bytes ≤ 4611686018427387904
+        shape_few = omega (arith, r.small, in_place voice s span.start place time r.ahead)
 
-        pub shape-grows : outline.last ≤ time + duration - span.start
-        shape-grows = omega (arith, r.early)
+        pub shape_grows : outline.last ≤ time + duration - span.start
+        shape_grows = omega (arith, r.early)
 
-        pub shape-near : time + duration - span.start ≤ 4294967296
-        shape-near = omega (arith, in_time voice s span.start next (time + duration) onward.0)
+        pub shape_near : time + duration - span.start ≤ 4294967296
+        shape_near = omega (arith, in_time voice s span.start next (time + duration) onward.0)
 
-        pub shape-silent : (b : Bool) → b ≡ is_message event → b ≡ false → Shaping voice s span outline count next (time + duration)
-        shape-silent b q h =
-            silent next (time + duration) onward.0 (omega (arith, timed-nears voice s place i is duration next event e)) (omega arith)
+        pub shape_silent : (b : Bool) → b ≡ is_message event → b ≡ false → Shaping voice s span outline count next (time + duration)
+        shape_silent b q h =
+            silent next (time + duration) onward.0 (omega (arith, timed_nears voice s place i is duration next event e)) (omega arith)
             (nop_next 0 span.start count time place r.ahead.rest onward.0.rest duration event onward.1 (sym q ∙ h))
 
         module _ (b : Bool) (q : b ≡ is_message event) (h : b ≡ true) (more : count ≡ 0 → ⊥) where
@@ -148,33 +148,33 @@ module _ (voice : Voice) (s : List ℕ) (span : Span) where
           sized : length (content_bytes (content_of s event)) ≡ event_size event
           sized = event_length_lem voice s event (read_fits s r.ahead.bytes voice place duration event next (sym is ∙ e))
 
-          pub shape-again : (more : Outline) → more ≡ joined outline (time + duration - span.start) (event_size event)
+          pub shape_again : (more : Outline) → more ≡ joined outline (time + duration - span.start) (event_size event)
               → more.last ≡ time + duration - span.start → more.bytes ≤ outline.bytes + (time + duration - span.start + 260)
               → Shaping voice s span more (count - 1) next (time + duration)
-          shape-again more is-joined last bytes =
-              let whole-rows = ap (outlined s outline) first ∙ row_joined s outline step event later
+          shape_again more is-joined last bytes =
+              let whole_rows = ap (outlined s outline) first ∙ row_joined s outline step event later
               ∙ ap (λ (n : ℕ). outlined s (joined outline step n) later) sized
               ∙ ap (λ (x : Outline). outlined s x later) (sym is-joined) in
               let near = in_time voice s span.start next (time + duration) onward.0 in
               record {
                 ahead = onward.0;
-                small = omega (arith, r.small, timed-nears voice s place i is duration next event e, near, bytes);
+                small = omega (arith, r.small, timed_nears voice s place i is duration next event e, near, bytes);
                 early = omega (arith, last);
-                whole = ap (shaped span.lasts) (sym whole-rows) ∙ r.whole;
+                whole = ap (shaped span.lasts) (sym whole_rows) ∙ r.whole;
               }
 
       module _ (next : ℕ) (e : i ≡ EndMark next) where
         marked : Onward voice s span.start place time r.ahead end_mark next time
-        marked = mark-onward voice s span.start place time r.ahead next (sym is ∙ e)
+        marked = mark_onward voice s span.start place time r.ahead next (sym is ∙ e)
 
-        pub shape-marks : Shaping voice s span outline count next time
-        shape-marks =
-            silent next time marked.0 (omega (arith, mark-nears voice s place i is next e)) (omega arith)
+        pub shape_marks : Shaping voice s span outline count next time
+        shape_marks =
+            silent next time marked.0 (omega (arith, mark_nears voice s place i is next e)) (omega arith)
             (mark_next 0 span.start count time place r.ahead.rest marked.0.rest marked.1)
 
-      pub shape-never : (shape : Shape) (number there : ℕ) → place < length s → i ≡ Refused number there → shape ≡ span_shape s (items_of voice s) span
-      shape-never shape number there inside e = absurd (never_refused voice s span.start place time r.ahead number there inside (sym is ∙ e))
+      pub shape_never : (shape : Shape) (number there : ℕ) → place < length s → i ≡ Refused number there → shape ≡ span_shape s (items_of voice s) span
+      shape_never shape number there inside e = absurd (never_refused voice s span.start place time r.ahead number there inside (sym is ∙ e))
 
-pub ruleset shapes = (shape-late, shape-few, shape-grows, shape-near, timed-nears, shape-silent, shape-again, mark-nears, shape-marks)
+pub ruleset shapes = (shape_late, shape_few, shape_grows, shape_near, timed_nears, shape_silent, shape_again, mark_nears, shape_marks)
 
-pub ruleset shape_known_ends = (shape-full, shape-ends, shape-never)
+pub ruleset shape_known_ends = (shape_full, shape_ends, shape_never)

@@ -26,7 +26,7 @@ use Rattle.flattening.specs.declared.Size.{Size}
 use Rattle.flattening.specs.Parts.{gap_bytes, span_shape, part_bytes, part_last, told, shape_of}
 use Rattle.flattening.specs.Orders.{order_bytes, no_shape, shape_at, add_shape, whole_size, Slight, Measured}
 use Rattle.flattening.proofs.Telling.{none_told, none_last}
-use Rattle.flattening.proofs.Shapes.{span-size, span_tail, span_silent, span_lead_within, span_tail_within, last_within}
+use Rattle.flattening.proofs.Shapes.{span_size, span_tail, span_silent, span_lead_within, span_tail_within, last_within}
 use Rattle.flattening.proofs.Ordering.{order_none_length, order_next_length}
 
 -- one section more, whether it is heard or silent
@@ -72,7 +72,7 @@ module _ (s : List ℕ) (items : Items) (span : Span) (size : Size) (past before
       let lead : size.gap + shape.lead ≡ before + shape.lead - past = omega (arith, gap) in
       sym (add_heard size shape h)
       ∙ ap₂ (λ (n t : ℕ). record { bytes = size.bytes + n; gap = t })
-      (ap (λ (g : ℕ). length (gap_bytes g) + shape.bytes) lead ∙ sym (span-size s items span before past h)) (sym (span_tail s items span before past h))
+      (ap (λ (g : ℕ). length (gap_bytes g) + shape.bytes) lead ∙ sym (span_size s items span before past h)) (sym (span_tail s items span before past h))
 
   silent_adds : (span_shape s items span).heard ≡ false → add_shape size (span_shape s items span) ≡ added
   silent_adds h =
@@ -129,36 +129,36 @@ module _ (s : List ℕ) (items : Items) (many : ℕ) (spans : List Span) (letter
       }
 
   module _ (shapes : List Shape) (known : List Bool) (size : Size) (i : ℕ) (w : Measuring shapes known size i) where
-    pub measure-slot : letters ! i < 256
-    measure-slot = w.bytes i
+    pub measure_slot : letters ! i < 256
+    measure_slot = w.bytes i
 
-    pub measure-slot-fits : Fits w64 (letters ! i)
-    measure-slot-fits = record { fits = omega (arith, w.bytes i) }
+    pub measure_slot_fits : Fits w64 (letters ! i)
+    measure_slot_fits = record { fits = omega (arith, w.bytes i) }
 
-    pub measure-span-fits : Fits w64 (letters ! i * 40)
-    measure-span-fits = record { fits = omega (arith, w.bytes i) }
+    pub measure_span_fits : Fits w64 (letters ! i * 40)
+    measure_span_fits = record { fits = omega (arith, w.bytes i) }
 
-    pub measure-shape-fits : Fits w64 (letters ! i * 32)
-    measure-shape-fits = record { fits = omega (arith, w.bytes i) }
+    pub measure_shape_fits : Fits w64 (letters ! i * 32)
+    measure_shape_fits = record { fits = omega (arith, w.bytes i) }
 
-    pub measure-gap : size.gap ≤ 70914205024256
-    measure-gap = omega (arith, w.short, w.within, w.listed)
+    pub measure_gap : size.gap ≤ 70914205024256
+    measure_gap = omega (arith, w.short, w.within, w.listed)
 
-    pub measure-few : size.bytes ≤ 300000000000000
-    measure-few = w.few
+    pub measure_few : size.bytes ≤ 300000000000000
+    measure_few = w.few
 
-    pub measure-over : 65536 < size.bytes → Measured s items spans letters (record { shapes = shapes; bytes = size.bytes })
-    measure-over h =
+    pub measure_over : 65536 < size.bytes → Measured s items spans letters (record { shapes = shapes; bytes = size.bytes })
+    measure_over h =
         record { over = λ g. omega (arith, w.same); size = λ g. absurd (omega arith); shaped = λ g. absurd (omega arith) }
 
-    pub measure-ends : (n : ℕ) → length letters ≤ i → n ≡ whole_size size → Measured s items spans letters (record { shapes = shapes; bytes = n })
+    pub measure_ends : (n : ℕ) → length letters ≤ i → n ≡ whole_size size → Measured s items spans letters (record { shapes = shapes; bytes = n })
     unfolding whole_size
-    measure-ends n over e =
+    measure_ends n over e =
         let end : i ≡ length letters = omega (arith, w.within) in
         let none : drop i letters ≡ [] = ap (λ (k : ℕ). drop k letters) end ∙ drop-length letters in
-        let rest-is = ap (λ (g : ℕ). length (bytes_of handy_phone (rest handy_phone g))) w.gap in
+        let rest_is = ap (λ (g : ℕ). length (bytes_of handy_phone (rest handy_phone g))) w.gap in
         let left = ap (λ (l : List ℕ). length (order_bytes s items spans w.past w.before l)) none ∙ order_none_length s items spans w.past w.before in
-        let is : n ≡ length (order_bytes s items spans 0 0 letters) = omega (arith, e, rest-is, left, w.same) in
+        let is : n ≡ length (order_bytes s items spans 0 0 letters) = omega (arith, e, rest_is, left, w.same) in
         record {
           over = λ g. omega (arith, is);
           size = λ g. is;
@@ -166,11 +166,11 @@ module _ (s : List ℕ) (items : Items) (many : ℕ) (spans : List Span) (letter
         }
 
     module _ (here : i < length letters) where
-      pub measure-playable : Playable items many (span_at spans (letters ! i))
-      measure-playable = w.playable i here
+      pub measure_playable : Playable items many (span_at spans (letters ! i))
+      measure_playable = w.playable i here
 
-      pub measure-nears : Fits w64 (i + 1)
-      measure-nears = record { fits = omega (arith, w.listed) }
+      pub measure_nears : Fits w64 (i + 1)
+      measure_nears = record { fits = omega (arith, w.listed) }
 
       module _ (shapes' : List Shape) (known' : List Bool) (k : Known no_shape (ShapeOf s items spans) (letters ! i) known shapes' known') where
         abbrev span : Span
@@ -179,8 +179,8 @@ module _ (s : List ℕ) (items : Items) (many : ℕ) (spans : List Span) (letter
         shape_is : ShapeOf s items spans (letters ! i) (shape_at shapes' (letters ! i))
         shape_is = k.table.right (letters ! i) k.here
 
-        pub measure-slight : Slight (shape_at shapes' (letters ! i))
-        measure-slight =
+        pub measure_slight : Slight (shape_at shapes' (letters ! i))
+        measure_slight =
             let brief = w.brief i here in
             record {
               lead = omega (arith, ap (λ (x : Shape). x.lead) shape_is.0, span_lead_within s items span (w.rises i here), brief);
@@ -188,9 +188,9 @@ module _ (s : List ℕ) (items : Items) (many : ℕ) (spans : List Span) (letter
               bytes = shape_is.1;
             }
 
-        pub measure-turns : (next : Size) → next ≡ add_shape size (shape_at shapes' (letters ! i)) → next.bytes ≤ 300000000000000
+        pub measure_turns : (next : Size) → next ≡ add_shape size (shape_at shapes' (letters ! i)) → next.bytes ≤ 300000000000000
             → Measuring shapes' known' next (i + 1)
-        measure-turns next e few =
+        measure_turns next e few =
             let past = w.past in
             let before = w.before in
             let rows = span_rows items span before in
@@ -199,8 +199,8 @@ module _ (s : List ℕ) (items : Items) (many : ℕ) (spans : List Span) (letter
             let bytes = ap (λ (x : Size). x.bytes) is in
             let tail : (add_shape size (shape_at shapes' (letters ! i))).gap ≤ size.gap + 1082064896 =
             by_test (shape_at shapes' (letters ! i)).heard
-            (λ h. omega (arith, measure-slight.tail, ap (λ (x : Size). x.gap) (add_heard size (shape_at shapes' (letters ! i)) h)))
-            (λ h. omega (arith, measure-slight.tail, ap (λ (x : Size). x.gap) (add_silent size (shape_at shapes' (letters ! i)) h))) in
+            (λ h. omega (arith, measure_slight.tail, ap (λ (x : Size). x.gap) (add_heard size (shape_at shapes' (letters ! i)) h)))
+            (λ h. omega (arith, measure_slight.tail, ap (λ (x : Size). x.gap) (add_silent size (shape_at shapes' (letters ! i)) h))) in
             record {
               bytes = w.bytes;
               playable = w.playable;
@@ -223,16 +223,16 @@ module _ (s : List ℕ) (items : Items) (many : ℕ) (spans : List Span) (letter
             }
 
 pub ruleset measuring = (
-  measure-slot,
-  measure-slot-fits,
-  measure-span-fits,
-  measure-shape-fits,
-  measure-gap,
-  measure-few,
-  measure-over,
-  measure-ends,
-  measure-playable,
-  measure-nears,
-  measure-slight,
-  measure-turns,
+  measure_slot,
+  measure_slot_fits,
+  measure_span_fits,
+  measure_shape_fits,
+  measure_gap,
+  measure_few,
+  measure_over,
+  measure_ends,
+  measure_playable,
+  measure_nears,
+  measure_slight,
+  measure_turns,
 )

@@ -21,9 +21,9 @@ use Rattle.model.specs.declared.ReadItem.TheVariants.{Timed, EndMark, Refused}
 use Rattle.model.specs.declared.Span.{Span}
 use Rattle.model.proofs.Stores.{sets_append}
 use Rattle.inverse.proofs.Fitting.{read_fits}
-use Rattle.items.proofs.Addresses.{timed-nears, mark-nears}
+use Rattle.items.proofs.Addresses.{timed_nears, mark_nears}
 use Rattle.sections.specs.Spans.{span_rows, Playable}
-use Rattle.sections.proofs.Ahead.{Ahead, Onward, next_rows, message_next, nop_next, mark_next, playable_begins, span_begins, none_ahead, timed-late, timed-onward, mark-onward, never_refused}
+use Rattle.sections.proofs.Ahead.{Ahead, Onward, next_rows, message_next, nop_next, mark_next, playable_begins, span_begins, none_ahead, timed_late, timed_onward, mark_onward, never_refused}
 use Rattle.flattening.specs.Parts.{plain_part, last_step, told, part_bytes, part_last, message_bytes}
 use Rattle.flattening.proofs.Joining.{part_first}
 
@@ -34,8 +34,8 @@ module _ (s : List ℕ) (gap : ℕ) (event : Event) where
   message_length = length-append (bytes_of handy_phone (waits handy_phone gap)) (timed_bytes s (left 16511 gap) event)
 
   module _ (l : List ℕ) (at : ℕ) where
-    pub waits-room : at + length (message_bytes s gap event) ≤ length l → at + length (bytes_of handy_phone (waits handy_phone gap)) ≤ length l
-    waits-room room = omega (arith, message_length)
+    pub waits_room : at + length (message_bytes s gap event) ≤ length l → at + length (bytes_of handy_phone (waits handy_phone gap)) ≤ length l
+    waits_room room = omega (arith, message_length)
 
     module _ (v : ℕ) (is : v ≡ left 16511 gap) (middle : ℕ) (after : middle ≡ at + length (bytes_of handy_phone (waits handy_phone gap))) where
       lasting : timed_bytes s v event ≡ timed_bytes s (left 16511 gap) event
@@ -44,16 +44,16 @@ module _ (s : List ℕ) (gap : ℕ) (event : Event) where
       pub item_room : (k : List ℕ) → at + length (message_bytes s gap event) ≤ length l → length k ≡ length l → middle + length (timed_bytes s v event) ≤ length k
       item_room k room same = omega (arith, message_length, ap length lasting)
 
-      pub message-next-place : (n : ℕ) → n ≡ middle + length (timed_bytes s v event) → n ≡ at + length (message_bytes s gap event)
-      message-next-place n e = omega (arith, message_length, ap length lasting)
+      pub message_next_place : (n : ℕ) → n ≡ middle + length (timed_bytes s v event) → n ≡ at + length (message_bytes s gap event)
+      message_next_place n e = omega (arith, message_length, ap length lasting)
 
-      pub message-wrote : (k m : List ℕ) → k ≡ sets l at (bytes_of handy_phone (waits handy_phone gap)) → m ≡ sets k middle (timed_bytes s v event)
+      pub message_wrote : (k m : List ℕ) → k ≡ sets l at (bytes_of handy_phone (waits handy_phone gap)) → m ≡ sets k middle (timed_bytes s v event)
           → m ≡ sets l at (message_bytes s gap event)
       unfolding message_bytes
-      message-wrote k m p h =
+      message_wrote k m p h =
           h ∙ rw (p, after, lasting) (sets_append l at (bytes_of handy_phone (waits handy_phone gap)) (timed_bytes s (left 16511 gap) event))
 
-pub ruleset message = (waits-room, item_room, message-next-place, message-wrote)
+pub ruleset message = (waits_room, item_room, message_next_place, message_wrote)
 
 pub none_told : (s : List ℕ) (past : ℕ) → part_bytes s past [] ≡ []
 unfolding part_bytes told plain_part bytes_of
@@ -108,17 +108,17 @@ module _ (voice : Voice) (s : List ℕ) (span : Span) (before past : ℕ) (l : L
 
     -- nothing is left
     module _ (none : rows ≡ []) where
-      none-bytes : part_bytes s last rows ≡ []
-      none-bytes = ap (part_bytes s last) none ∙ none_told s last
+      none_bytes : part_bytes s last rows ≡ []
+      none_bytes = ap (part_bytes s last) none ∙ none_told s last
 
       over_at : here ≡ at + length (part_bytes s past all)
-      over_at = omega (arith, ap length none-bytes, r.size)
+      over_at = omega (arith, ap length none_bytes, r.size)
 
-      over-past : last ≡ part_last s past all
-      over-past = sym (ap (part_last s last) none ∙ none_last s last) ∙ r.ends
+      over_past : last ≡ part_last s past all
+      over_past = sym (ap (part_last s last) none ∙ none_last s last) ∙ r.ends
 
-      over-out : out ≡ sets l at (part_bytes s past all)
-      over-out = ap (sets out here) (sym none-bytes) ∙ r.whole
+      over_out : out ≡ sets l at (part_bytes s past all)
+      over_out = ap (sets out here) (sym none_bytes) ∙ r.whole
 
     full : count ≡ 0 → rows ≡ []
     full e = rw e refl
@@ -126,23 +126,23 @@ module _ (voice : Voice) (s : List ℕ) (span : Span) (before past : ℕ) (l : L
     pub full_at : count ≡ 0 → here ≡ at + length (part_bytes s past (span_rows (items_of voice s) span before))
     full_at e = over_at (full e)
 
-    pub full-past : count ≡ 0 → last ≡ part_last s past (span_rows (items_of voice s) span before)
-    full-past e = over-past (full e)
+    pub full_past : count ≡ 0 → last ≡ part_last s past (span_rows (items_of voice s) span before)
+    full_past e = over_past (full e)
 
-    pub full-out : count ≡ 0 → out ≡ sets l at (part_bytes s past (span_rows (items_of voice s) span before))
-    full-out e = over-out (full e)
+    pub full_out : count ≡ 0 → out ≡ sets l at (part_bytes s past (span_rows (items_of voice s) span before))
+    full_out e = over_out (full e)
 
     past_end : length s ≤ place → rows ≡ []
     past_end h = none_ahead voice s span.start place time r.ahead before count h
 
-    pub end-at : length s ≤ place → here ≡ at + length (part_bytes s past (span_rows (items_of voice s) span before))
-    end-at h = over_at (past_end h)
+    pub end_at : length s ≤ place → here ≡ at + length (part_bytes s past (span_rows (items_of voice s) span before))
+    end_at h = over_at (past_end h)
 
-    pub end-past : length s ≤ place → last ≡ part_last s past (span_rows (items_of voice s) span before)
-    end-past h = over-past (past_end h)
+    pub end_past : length s ≤ place → last ≡ part_last s past (span_rows (items_of voice s) span before)
+    end_past h = over_past (past_end h)
 
-    pub end-out : length s ≤ place → out ≡ sets l at (part_bytes s past (span_rows (items_of voice s) span before))
-    end-out h = over-out (past_end h)
+    pub end_out : length s ≤ place → out ≡ sets l at (part_bytes s past (span_rows (items_of voice s) span before))
+    end_out h = over_out (past_end h)
 
     -- past an item that is no message
     silent : (next later : ℕ) (a : Ahead voice s span.start next later) → time ≤ later
@@ -163,19 +163,19 @@ module _ (voice : Voice) (s : List ℕ) (span : Span) (before past : ℕ) (l : L
     module _ (i : ReadItem) (is : i ≡ item_at voice s place) where
       module _ (duration next : ℕ) (event : Event) (e : i ≡ Timed duration event next) where
         onward : Onward voice s span.start place time r.ahead (timed duration event) next (time + duration)
-        onward = timed-onward voice s span.start place time r.ahead duration next event (sym is ∙ e)
+        onward = timed_onward voice s span.start place time r.ahead duration next event (sym is ∙ e)
 
-        pub tell-fits : event_fits voice s event ≡ true
-        tell-fits = read_fits s r.ahead.bytes voice place duration event next (sym is ∙ e)
+        pub tell_fits : event_fits voice s event ≡ true
+        tell_fits = read_fits s r.ahead.bytes voice place duration event next (sym is ∙ e)
 
-        pub tell-late : span.start ≤ time + duration
-        tell-late = timed-late voice s span.start place time r.ahead duration next event (sym is ∙ e)
+        pub tell_late : span.start ≤ time + duration
+        tell_late = timed_late voice s span.start place time r.ahead duration next event (sym is ∙ e)
 
-        pub tell-gap : last ≤ before + (time + duration - span.start)
-        tell-gap = omega (arith, r.early)
+        pub tell_gap : last ≤ before + (time + duration - span.start)
+        tell_gap = omega (arith, r.early)
 
-        pub tell-silent : (b : Bool) → b ≡ is_message event → b ≡ false → Telling voice s span before past l at out here last count next (time + duration)
-        tell-silent b q h =
+        pub tell_silent : (b : Bool) → b ≡ is_message event → b ≡ false → Telling voice s span before past l at out here last count next (time + duration)
+        tell_silent b q h =
             silent next (time + duration) onward.0 (omega arith)
             (nop_next before span.start count time place r.ahead.rest onward.0.rest duration event onward.1 (sym q ∙ h))
 
@@ -197,13 +197,13 @@ module _ (voice : Voice) (s : List ℕ) (span : Span) (before past : ℕ) (l : L
           first_length : length (part_bytes s last rows) ≡ length (message_bytes s (step - last) event) + length (part_bytes s step later)
           first_length = ap length first_bytes ∙ length-append (message_bytes s (step - last) event) (part_bytes s step later)
 
-          pub tell-room : here + length (message_bytes s (before + (time + duration - span.start) - last) event) ≤ length out
-          tell-room = omega (arith, first_length, r.size, r.room)
+          pub tell_room : here + length (message_bytes s (before + (time + duration - span.start) - last) event) ≤ length out
+          tell_room = omega (arith, first_length, r.size, r.room)
 
-          pub tell-again : (m : List ℕ) (after : ℕ) → after ≡ here + length (message_bytes s (before + (time + duration - span.start) - last) event)
+          pub tell_again : (m : List ℕ) (after : ℕ) → after ≡ here + length (message_bytes s (before + (time + duration - span.start) - last) event)
               → m ≡ sets out here (message_bytes s (before + (time + duration - span.start) - last) event) → length m ≡ length out
               → Telling voice s span before past l at m after (before + (time + duration - span.start)) (count - 1) next (time + duration)
-          tell-again m after n w k =
+          tell_again m after n w k =
               let stored : sets m after (part_bytes s step later) ≡ sets out here (part_bytes s last rows) =
               rw (w, n, first_bytes) (sets_append out here (message_bytes s (step - last) event) (part_bytes s step later)) in
               record {
@@ -219,10 +219,10 @@ module _ (voice : Voice) (s : List ℕ) (span : Span) (before past : ℕ) (l : L
 
       module _ (next : ℕ) (e : i ≡ EndMark next) where
         marked : Onward voice s span.start place time r.ahead end_mark next time
-        marked = mark-onward voice s span.start place time r.ahead next (sym is ∙ e)
+        marked = mark_onward voice s span.start place time r.ahead next (sym is ∙ e)
 
-        pub tell-marks : Telling voice s span before past l at out here last count next time
-        tell-marks =
+        pub tell_marks : Telling voice s span before past l at out here last count next time
+        tell_marks =
             silent next time marked.0 (omega arith)
             (mark_next before span.start count time place r.ahead.rest marked.0.rest marked.1)
 
@@ -230,15 +230,15 @@ module _ (voice : Voice) (s : List ℕ) (span : Span) (before past : ℕ) (l : L
         never : ⊥
         never = never_refused voice s span.start place time r.ahead number there inside (sym is ∙ e)
 
-        pub never-at : here ≡ at + length (part_bytes s past (span_rows (items_of voice s) span before))
-        never-at = absurd never
+        pub never_at : here ≡ at + length (part_bytes s past (span_rows (items_of voice s) span before))
+        never_at = absurd never
 
-        pub never-past : last ≡ part_last s past (span_rows (items_of voice s) span before)
-        never-past = absurd never
+        pub never_past : last ≡ part_last s past (span_rows (items_of voice s) span before)
+        never_past = absurd never
 
-        pub never-out : out ≡ sets l at (part_bytes s past (span_rows (items_of voice s) span before))
-        never-out = absurd never
+        pub never_out : out ≡ sets l at (part_bytes s past (span_rows (items_of voice s) span before))
+        never_out = absurd never
 
-pub ruleset tells = (tell-fits, tell-late, tell-gap, timed-nears, tell-silent, tell-room, tell-again, mark-nears, tell-marks)
+pub ruleset tells = (tell_fits, tell_late, tell_gap, timed_nears, tell_silent, tell_room, tell_again, mark_nears, tell_marks)
 
-pub ruleset tell_ends = (full_at, full-past, full-out, end-at, end-past, end-out, never-at, never-past, never-out)
+pub ruleset tell_ends = (full_at, full_past, full_out, end_at, end_past, end_out, never_at, never_past, never_out)

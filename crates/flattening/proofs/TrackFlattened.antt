@@ -30,7 +30,7 @@ use Rattle.sections.proofs.Tunes.{stream_section_rises}
 use Rattle.sections.proofs.WholeStream.{played_alone}
 use Rattle.playing.specs.Performing.{entries_said, Ready, span_at, letter_section, Spanned, AllPlayable, AllShort, AllRise, lasts_together, rows_together, tune_together, Heard, Found}
 use Rattle.playing.proofs.Bounded.{span_rises}
-use Rattle.playing.proofs.Together.{together-is}
+use Rattle.playing.proofs.Together.{together_is}
 use Rattle.flattening.specs.Parts.{told}
 use Rattle.flattening.specs.Orders.{order_bytes, fitted}
 use Rattle.flattening.specs.Flattening.{sections_plain, flattened, bodies_flattened}
@@ -54,53 +54,53 @@ module _ (voice : Voice) (header : ℕ) (body seek room : List ℕ) where
     unfolding bodies_flattened flattened
     no_order = rw none_there
 
-    pub unordered-answer : flatten.Refused 17 header ≡ flatten_answer (bodies_flattened voice true header (length room) body seek)
-    unordered-answer = refused_answer _ 17 header no_order
+    pub unordered_answer : flatten.Refused 17 header ≡ flatten_answer (bodies_flattened voice true header (length room) body seek)
+    unordered_answer = refused_answer _ 17 header no_order
 
-    pub unordered-room : room ≡ flatten_room room (bodies_flattened voice true header (length room) body seek)
-    unordered-room = refused_room _ 17 header no_order room
+    pub unordered_room : room ≡ flatten_room room (bodies_flattened voice true header (length room) body seek)
+    unordered_room = refused_room _ 17 header no_order room
 
   -- PHRASES, by the spans of the letters up to where playing stops
   module _ (ready : Ready voice true body seek) (letters : List ℕ) (found : FoundSpans)
       (finds : Found (items_of voice body) (length body) (entries_said true seek) letters found) where
-    pub phrases-within : found.letters ≤ length letters
-    phrases-within = finds.within
+    pub phrases_within : found.letters ≤ length letters
+    phrases_within = finds.within
 
     module _ (front : List ℕ) (are : front ≡ take found.letters letters) where
       heard : Heard items (length body) found.spans front
       heard = subst (Heard items (length body) found.spans) (sym are) finds.heard
 
-      pub phrases-few : length front ≤ 65536
-      phrases-few = heard.listed
+      pub phrases_few : length front ≤ 65536
+      phrases_few = heard.listed
 
-      pub phrases-playable : AllPlayable (items_of voice body) (length body) found.spans front
-      phrases-playable = heard.playable
+      pub phrases_playable : AllPlayable (items_of voice body) (length body) found.spans front
+      phrases_playable = heard.playable
 
-      pub phrases-short : AllShort found.spans front
-      phrases-short = heard.short
+      pub phrases_short : AllShort found.spans front
+      phrases_short = heard.short
 
-      pub phrases-rise : AllRise (items_of voice body) found.spans front
-      phrases-rise = heard.rise
+      pub phrases_rise : AllRise (items_of voice body) found.spans front
+      phrases_rise = heard.rise
 
       module _ (order : order_of true (items_of voice body) (entries_said true seek) ≡ some (map (letter_section (items_of voice body) (entries_said true seek)) letters)) where
-        phrases-are : fitted header (length room) (order_bytes body items found.spans 0 0 front) ≡ bodies_flattened voice true header (length room) body seek
+        phrases_are : fitted header (length room) (order_bytes body items found.spans 0 0 front) ≡ bodies_flattened voice true header (length room) body seek
         unfolding bodies_flattened flattened
-        phrases-are =
+        phrases_are =
             ap (fitted header (length room))
             (order_plain body items found.spans front (map (letter_section items (entries_said true seek)) letters)
-            (together-is voice body ready.reads (entries_said true seek) found.spans letters front (are ∙ finds.are)
+            (together_is voice body ready.reads (entries_said true seek) found.spans letters front (are ∙ finds.are)
             (subst (Spanned items (length body) (entries_said true seek) found.spans) (sym are) finds.spanned)))
             ∙ sym (rw order refl)
 
-        pub phrases-answer : (r : FlattenAnswer)
+        pub phrases_answer : (r : FlattenAnswer)
             → r ≡ flatten_answer (fitted header (length room) (order_bytes body (items_of voice body) found.spans 0 0 front))
             → r ≡ flatten_answer (bodies_flattened voice true header (length room) body seek)
-        phrases-answer r e = e ∙ ap flatten_answer phrases-are
+        phrases_answer r e = e ∙ ap flatten_answer phrases_are
 
-        pub phrases-room : (m : List ℕ)
+        pub phrases_room : (m : List ℕ)
             → m ≡ flatten_room room (fitted header (length room) (order_bytes body (items_of voice body) found.spans 0 0 front))
             → m ≡ flatten_room room (bodies_flattened voice true header (length room) body seek)
-        phrases-room m e = e ∙ ap (flatten_room room) phrases-are
+        phrases_room m e = e ∙ ap (flatten_room room) phrases_are
 
   -- A STREAM, by its one span
   module _ (ready : Ready voice false body seek) (span : Span)
@@ -109,41 +109,41 @@ module _ (voice : Voice) (header : ℕ) (body seek room : List ℕ) where
     abbrev section : Section
     section = stream_section items (start_point (entries_said false seek) otherwise 0) (stop_point (entries_said false seek))
 
-    one-letter : (P : ℕ → Type 0) → P 0 → (i : ℕ) → i < length {A = ℕ} (replicate 1 0) → P (replicate 1 0 ! i)
-    one-letter P p i h = let first : i ≡ 0 = omega arith in rw first p
+    one_letter : (P : ℕ → Type 0) → P 0 → (i : ℕ) → i < length {A = ℕ} (replicate 1 0) → P (replicate 1 0 ! i)
+    one_letter P p i h = let first : i ≡ 0 = omega arith in rw first p
 
     pub stream_playable : AllPlayable (items_of voice body) (length body) (replicate 256 span) (replicate 1 0)
-    stream_playable = one-letter (λ letter. Playable items (length body) (span_at (replicate 256 span) letter)) (record { section = section; is = is })
+    stream_playable = one_letter (λ letter. Playable items (length body) (span_at (replicate 256 span) letter)) (record { section = section; is = is })
 
     pub stream_short : length body ≤ 65536 → Small (length body) span → AllShort (replicate 256 span) (replicate 1 0)
-    stream_short small bound = one-letter (λ letter. (span_at (replicate 256 span) letter).lasts ≤ 1082064896) (let h = bound.short in omega arith)
+    stream_short small bound = one_letter (λ letter. (span_at (replicate 256 span) letter).lasts ≤ 1082064896) (let h = bound.short in omega arith)
 
-    pub stream-rise : AllRise (items_of voice body) (replicate 256 span) (replicate 1 0)
-    stream-rise =
-        one-letter
+    pub stream_rise : AllRise (items_of voice body) (replicate 256 span) (replicate 1 0)
+    stream_rise =
+        one_letter
         (λ letter. SpanRises items (span_at (replicate 256 span) letter))
         (span_rises voice body ready.reads section (stream_section_rises items (start_point (entries_said false seek) otherwise 0) (stop_point (entries_said false seek))) span is)
 
     -- one letter plays what the section does
-    stream-tune : tune_together items (replicate 256 span) (replicate 1 0) ≡ tune_of is_message items (section ∷ [])
+    stream_tune : tune_together items (replicate 256 span) (replicate 1 0) ≡ tune_of is_message items (section ∷ [])
     unfolding tune_together rows_together lasts_together all_played played_from sum span_of
-    stream-tune =
+    stream_tune =
         ap₂ (λ (messages : List (At Event)) (end : ℕ). record { messages = messages ++ []; end = end + 0 })
         (ap (λ (one : Span). span_rows items one 0) is ∙ span_sounds voice body ready.reads section 0) (ap (λ (one : Span). one.lasts) is)
         ∙ sym (played_alone items section)
 
-    stream-are : fitted header (length room) (order_bytes body items (replicate 256 span) 0 0 (replicate 1 0)) ≡ bodies_flattened voice false header (length room) body seek
+    stream_are : fitted header (length room) (order_bytes body items (replicate 256 span) 0 0 (replicate 1 0)) ≡ bodies_flattened voice false header (length room) body seek
     unfolding bodies_flattened flattened order_of
-    stream-are = ap (fitted header (length room)) (order_plain body items (replicate 256 span) (replicate 1 0) (section ∷ []) stream-tune)
+    stream_are = ap (fitted header (length room)) (order_plain body items (replicate 256 span) (replicate 1 0) (section ∷ []) stream_tune)
 
-    pub stream-answer : (r : FlattenAnswer)
+    pub stream_answer : (r : FlattenAnswer)
         → r ≡ flatten_answer (fitted header (length room) (order_bytes body (items_of voice body) (replicate 256 span) 0 0 (replicate 1 0)))
         → r ≡ flatten_answer (bodies_flattened voice false header (length room) body seek)
-    stream-answer r e = e ∙ ap flatten_answer stream-are
+    stream_answer r e = e ∙ ap flatten_answer stream_are
 
-    pub stream-room : (m : List ℕ)
+    pub stream_room : (m : List ℕ)
         → m ≡ flatten_room room (fitted header (length room) (order_bytes body (items_of voice body) (replicate 256 span) 0 0 (replicate 1 0)))
         → m ≡ flatten_room room (bodies_flattened voice false header (length room) body seek)
-    stream-room m e = e ∙ ap (flatten_room room) stream-are
+    stream_room m e = e ∙ ap (flatten_room room) stream_are
 
-pub ruleset track_flattened = (unordered-answer, unordered-room, phrases-within, phrases-few, phrases-playable, phrases-short, phrases-rise, phrases-answer, phrases-room, stream_playable, stream_short, stream-rise, stream-answer, stream-room)
+pub ruleset track_flattened = (unordered_answer, unordered_room, phrases_within, phrases_few, phrases_playable, phrases_short, phrases_rise, phrases_answer, phrases_room, stream_playable, stream_short, stream_rise, stream_answer, stream_room)

@@ -41,11 +41,11 @@ module _ (gap : ℕ) where
     unfolding left
     left_is = ap (λ (m : ℕ). gap - m * 16511) is
 
-    pub left-small : gap - n * 16511 ≤ 16511
-    left-small = rw left_is (left_short 16511 gap (omega arith))
+    pub left_small : gap - n * 16511 ≤ 16511
+    left_small = rw left_is (left_short 16511 gap (omega arith))
 
-    pub left-fits : gap - n * 16511 < 4294967296
-    left-fits = omega (arith, left-small)
+    pub left_fits : gap - n * 16511 < 4294967296
+    left_fits = omega (arith, left_small)
 
 -- the waits
 wait_first : (items : List (Item Content)) → bytes_of handy_phone (timed 16511 nop ∷ items) ≡ wait_bytes ++ bytes_of handy_phone items
@@ -78,28 +78,28 @@ module _ (gap : ℕ) where
   rest_none e = simp eq-eqb
 
   module _ (v : ℕ) (is : v ≡ left 16511 gap) where
-    pub rest-none-sized : (n : ℕ) → v ≡ 0 → n ≡ length (waits_bytes gap) → n ≡ length (bytes_of handy_phone (rest handy_phone gap))
-    rest-none-sized n e p = p ∙ ap (λ (items : List (Item Content)). length (bytes_of handy_phone items)) (sym (rest_none (sym is ∙ e)))
+    pub rest_none_sized : (n : ℕ) → v ≡ 0 → n ≡ length (waits_bytes gap) → n ≡ length (bytes_of handy_phone (rest handy_phone gap))
+    rest_none_sized n e p = p ∙ ap (λ (items : List (Item Content)). length (bytes_of handy_phone items)) (sym (rest_none (sym is ∙ e)))
 
     module _ (some : v ≡ 0 → ⊥) where
-      rest-bytes : bytes_of handy_phone (rest handy_phone gap) ≡ waits_bytes gap ++ (duration_bytes v ++ (0xFF ∷ 0x00 ∷ []))
+      rest_bytes : bytes_of handy_phone (rest handy_phone gap) ≡ waits_bytes gap ++ (duration_bytes v ++ (0xFF ∷ 0x00 ∷ []))
       unfolding rest if◌then◌else◌ bytes_of item_bytes content_bytes
-      rest-bytes =
+      rest_bytes =
           let over : left 16511 gap ≡ 0 → ⊥ = λ e. some (is ∙ e) in
           simp ne_eqb
           (bytes_append Content handy_phone (waits handy_phone gap) (timed (left 16511 gap) nop ∷ [])
           ∙ ap (λ (bytes : List ℕ). waits_bytes gap ++ bytes) (append-nil (duration_bytes (left 16511 gap) ++ (0xFF ∷ 0x00 ∷ [])))
           ∙ ap (λ (x : ℕ). waits_bytes gap ++ (duration_bytes x ++ (0xFF ∷ 0x00 ∷ []))) (sym is))
 
-      rest-length : length (bytes_of handy_phone (rest handy_phone gap)) ≡ length (waits_bytes gap) + (length (duration_bytes v) + 2)
-      rest-length =
-          ap length rest-bytes ∙ length-append (waits_bytes gap) (duration_bytes v ++ (0xFF ∷ 0x00 ∷ []))
+      rest_length : length (bytes_of handy_phone (rest handy_phone gap)) ≡ length (waits_bytes gap) + (length (duration_bytes v) + 2)
+      rest_length =
+          ap length rest_bytes ∙ length-append (waits_bytes gap) (duration_bytes v ++ (0xFF ∷ 0x00 ∷ []))
           ∙ ap (λ (n : ℕ). length (waits_bytes gap) + n) (length-append (duration_bytes v) (0xFF ∷ 0x00 ∷ []))
 
-      pub rest-sized : (n d : ℕ) → n ≡ length (waits_bytes gap) → d ≡ length (duration_bytes v) → n + d + 2 ≡ length (bytes_of handy_phone (rest handy_phone gap))
-      rest-sized n d p q = omega (arith, rest-length)
+      pub rest_sized : (n d : ℕ) → n ≡ length (waits_bytes gap) → d ≡ length (duration_bytes v) → n + d + 2 ≡ length (bytes_of handy_phone (rest handy_phone gap))
+      rest_sized n d p q = omega (arith, rest_length)
 
-pub ruleset sizes = (no_times, some_times, times_within, left_is, left-small, left-fits, waits_sized, gap_sized, rest-none-sized, rest-sized)
+pub ruleset sizes = (no_times, some_times, times_within, left_is, left_small, left_fits, waits_sized, gap_sized, rest_none_sized, rest_sized)
 
 -- the waits, written
 pub record Waiting (l : List ℕ) (at gap : ℕ) (out : List ℕ) (place more : ℕ) : Type 0 where
@@ -117,12 +117,12 @@ module _ (l : List ℕ) (at gap : ℕ) where
       ahead : waits_bytes more ≡ wait_bytes ++ waits_bytes (more - 16511)
       ahead = ap (bytes_of handy_phone) (waits_more handy_phone more (omega arith) long).0 ∙ wait_first (waits handy_phone (more - 16511))
 
-      pub wait-room : place + 4 ≤ length out
-      wait-room = omega (arith, ap length ahead, w.size, w.room)
+      pub wait_room : place + 4 ≤ length out
+      wait_room = omega (arith, ap length ahead, w.size, w.room)
 
-      pub wait-again : (m : List ℕ) (next : ℕ) → next ≡ place + 4 → m ≡ sets out place (0xFF ∷ 0x7F ∷ 0xFF ∷ 0x00 ∷ []) → length m ≡ length out
+      pub wait_again : (m : List ℕ) (next : ℕ) → next ≡ place + 4 → m ≡ sets out place (0xFF ∷ 0x7F ∷ 0xFF ∷ 0x00 ∷ []) → length m ≡ length out
           → Waiting l at gap m next (more - 16511)
-      wait-again m next n e k =
+      wait_again m next n e k =
           let stored : sets m next (waits_bytes (more - 16511)) ≡ sets out place (waits_bytes more) =
           rw (e, n, ahead) (sets_append out place wait_bytes (waits_bytes (more - 16511))) in
           record {
@@ -137,13 +137,13 @@ module _ (l : List ℕ) (at gap : ℕ) where
       unfolding bytes_of
       nothing = ap (bytes_of handy_phone) (waits_none handy_phone more (omega arith) short).0
 
-      pub wait-ends : place ≡ at + length (waits_bytes gap)
-      wait-ends = omega (arith, ap length nothing, w.size)
+      pub wait_ends : place ≡ at + length (waits_bytes gap)
+      wait_ends = omega (arith, ap length nothing, w.size)
 
-      pub wait-whole : out ≡ sets l at (waits_bytes gap)
-      wait-whole = ap (sets out place) (sym nothing) ∙ w.whole
+      pub wait_whole : out ≡ sets l at (waits_bytes gap)
+      wait_whole = ap (sets out place) (sym nothing) ∙ w.whole
 
-pub ruleset waiting = (wait_starts, wait-room, wait-again, wait-ends, wait-whole)
+pub ruleset waiting = (wait_starts, wait_room, wait_again, wait_ends, wait_whole)
 
 -- a gap, written: the waits, and the duration that is left
 module _ (l : List ℕ) (at gap : ℕ) where
@@ -154,17 +154,17 @@ module _ (l : List ℕ) (at gap : ℕ) where
     lasting : length (duration_bytes v) ≡ length (duration_bytes (left 16511 gap))
     lasting = ap (λ (x : ℕ). length (duration_bytes x)) is
 
-    pub gap-duration-room : (k : List ℕ) → at + length (gap_bytes gap) ≤ length l → length k ≡ length l → middle + length (duration_bytes v) ≤ length k
-    gap-duration-room k room same = omega (arith, gap_length gap, lasting)
+    pub gap_duration_room : (k : List ℕ) → at + length (gap_bytes gap) ≤ length l → length k ≡ length l → middle + length (duration_bytes v) ≤ length k
+    gap_duration_room k room same = omega (arith, gap_length gap, lasting)
 
-    pub gap-next : (n : ℕ) → n ≡ middle + length (duration_bytes v) → n ≡ at + length (gap_bytes gap)
-    gap-next n e = omega (arith, gap_length gap, lasting)
+    pub gap_next : (n : ℕ) → n ≡ middle + length (duration_bytes v) → n ≡ at + length (gap_bytes gap)
+    gap_next n e = omega (arith, gap_length gap, lasting)
 
-    pub gap-wrote : (k m : List ℕ) → k ≡ sets l at (waits_bytes gap) → m ≡ sets k middle (duration_bytes v) → m ≡ sets l at (gap_bytes gap)
+    pub gap_wrote : (k m : List ℕ) → k ≡ sets l at (waits_bytes gap) → m ≡ sets k middle (duration_bytes v) → m ≡ sets l at (gap_bytes gap)
     unfolding gap_bytes
-    gap-wrote k m p q = q ∙ rw (p, after, is) (sets_append l at (waits_bytes gap) (duration_bytes (left 16511 gap)))
+    gap_wrote k m p q = q ∙ rw (p, after, is) (sets_append l at (waits_bytes gap) (duration_bytes (left 16511 gap)))
 
-pub ruleset gaps = (gap_waits_room, gap-duration-room, gap-next, gap-wrote)
+pub ruleset gaps = (gap_waits_room, gap_duration_room, gap_next, gap_wrote)
 
 -- a rest, written: the waits, and a last part
 module _ (l : List ℕ) (at gap : ℕ) where
@@ -173,36 +173,36 @@ module _ (l : List ℕ) (at gap : ℕ) where
       alone : bytes_of handy_phone (rest handy_phone gap) ≡ waits_bytes gap
       alone = ap (bytes_of handy_phone) (rest_none gap (sym is ∙ none))
 
-      pub rest-none-next : (place : ℕ) → place ≡ at + length (waits_bytes gap) → place ≡ at + length (bytes_of handy_phone (rest handy_phone gap))
-      rest-none-next place e = rw alone e
+      pub rest_none_next : (place : ℕ) → place ≡ at + length (waits_bytes gap) → place ≡ at + length (bytes_of handy_phone (rest handy_phone gap))
+      rest_none_next place e = rw alone e
 
-      pub rest-none-wrote : (k : List ℕ) → k ≡ sets l at (waits_bytes gap) → k ≡ sets l at (bytes_of handy_phone (rest handy_phone gap))
-      rest-none-wrote k e = rw alone e
+      pub rest_none_wrote : (k : List ℕ) → k ≡ sets l at (waits_bytes gap) → k ≡ sets l at (bytes_of handy_phone (rest handy_phone gap))
+      rest_none_wrote k e = rw alone e
 
     module _ (some : v ≡ 0 → ⊥) (place : ℕ) (after : place ≡ at + length (waits_bytes gap)) where
-      pub rest-part-room : (k : List ℕ) → at + length (bytes_of handy_phone (rest handy_phone gap)) ≤ length l → length k ≡ length l
+      pub rest_part_room : (k : List ℕ) → at + length (bytes_of handy_phone (rest handy_phone gap)) ≤ length l → length k ≡ length l
           → place + length (duration_bytes v) ≤ length k
-      rest-part-room k room same = omega (arith, rest-length gap v is some)
+      rest_part_room k room same = omega (arith, rest_length gap v is some)
 
       module _ (middle : ℕ) (between : middle ≡ place + length (duration_bytes v)) where
-        pub rest-nop-room : (k m : List ℕ) → at + length (bytes_of handy_phone (rest handy_phone gap)) ≤ length l → length k ≡ length l → length m ≡ length k
+        pub rest_nop_room : (k m : List ℕ) → at + length (bytes_of handy_phone (rest handy_phone gap)) ≤ length l → length k ≡ length l → length m ≡ length k
             → middle + 2 ≤ length m
-        rest-nop-room k m room same kept = omega (arith, rest-length gap v is some)
+        rest_nop_room k m room same kept = omega (arith, rest_length gap v is some)
 
-        pub rest-next : (n : ℕ) → n ≡ middle + 2 → n ≡ at + length (bytes_of handy_phone (rest handy_phone gap))
-        rest-next n e = omega (arith, rest-length gap v is some)
+        pub rest_next : (n : ℕ) → n ≡ middle + 2 → n ≡ at + length (bytes_of handy_phone (rest handy_phone gap))
+        rest_next n e = omega (arith, rest_length gap v is some)
 
-        pub rest-wrote : (k m r : List ℕ) → k ≡ sets l at (waits_bytes gap) → m ≡ sets k place (duration_bytes v) → r ≡ sets m middle (0xFF ∷ 0x00 ∷ [])
+        pub rest_wrote : (k m r : List ℕ) → k ≡ sets l at (waits_bytes gap) → m ≡ sets k place (duration_bytes v) → r ≡ sets m middle (0xFF ∷ 0x00 ∷ [])
             → r ≡ sets l at (bytes_of handy_phone (rest handy_phone gap))
-        rest-wrote k m r p q h =
+        rest_wrote k m r p q h =
             let both : r ≡ sets k place (duration_bytes v ++ (0xFF ∷ 0x00 ∷ [])) =
             h ∙ rw (q, between) (sets_append k place (duration_bytes v) (0xFF ∷ 0x00 ∷ [])) in
-            both ∙ rw (p, after, rest-bytes gap v is some) (sets_append l at (waits_bytes gap) (duration_bytes v ++ (0xFF ∷ 0x00 ∷ [])))
+            both ∙ rw (p, after, rest_bytes gap v is some) (sets_append l at (waits_bytes gap) (duration_bytes v ++ (0xFF ∷ 0x00 ∷ [])))
 
 pub left_room : (l : List ℕ) (at gap : ℕ) → at + length (bytes_of handy_phone (rest handy_phone gap)) ≤ length l → at + length (waits_bytes gap) ≤ length l
 left_room l at gap room =
     by_test (left 16511 gap ≡? 0)
     (λ t. omega (arith, ap (λ (items : List (Item Content)). length (bytes_of handy_phone items)) (rest_none gap (eqb-true (left 16511 gap) 0 t))))
-    (λ t. omega (arith, rest-length gap (left 16511 gap) refl (eqb-false (left 16511 gap) 0 t)))
+    (λ t. omega (arith, rest_length gap (left 16511 gap) refl (eqb-false (left 16511 gap) 0 t)))
 
-pub ruleset rests = (rest-none-next, rest-none-wrote, rest-part-room, rest-nop-room, rest-next, rest-wrote, left_room)
+pub ruleset rests = (rest_none_next, rest_none_wrote, rest_part_room, rest_nop_room, rest_next, rest_wrote, left_room)

@@ -16,7 +16,7 @@ use Rattle.sections.specs.Spans.{Items, span_rows, SpanRises}
 use Rattle.sections.proofs.Copying.{part_before, part_stored}
 use Rattle.flattening.specs.Parts.{part_bytes, part_last, gap_bytes, span_shape, span_bytes, Written, WrittenWhereKnown}
 use Rattle.flattening.proofs.Telling.{none_told, none_last}
-use Rattle.flattening.proofs.Shapes.{span-bytes, span-size, span_tail, span_silent, span_counted, span_ends, span_lead_within, span_tail_within, last_within}
+use Rattle.flattening.proofs.Shapes.{span_bytes_lem, span_size, span_tail, span_silent, span_counted, span_ends, span_lead_within, span_tail_within, last_within}
 
 -- a gap, and bytes that are copied after it
 pub copy_wrote : (l k m : List ℕ) (at gap from count middle : ℕ) → from + count ≤ at → middle ≡ at + length (gap_bytes gap) → k ≡ sets l at (gap_bytes gap)
@@ -34,17 +34,17 @@ module _ (s : List ℕ) (items : Items) (span : Span) (shape : Shape) (is : shap
     none : span_rows items span before ≡ []
     none = span_silent s items span before past (sym (ap (λ (x : Shape). x.heard) is) ∙ silent)
 
-    none-bytes : part_bytes s past (span_rows items span before) ≡ []
-    none-bytes = ap (part_bytes s past) none ∙ none_told s past
+    none_bytes : part_bytes s past (span_rows items span before) ≡ []
+    none_bytes = ap (part_bytes s past) none ∙ none_told s past
 
-    pub silent-at : (at : ℕ) → at ≡ at + length (part_bytes s past (span_rows items span before))
-    silent-at at = omega (arith, ap length none-bytes)
+    pub silent_at : (at : ℕ) → at ≡ at + length (part_bytes s past (span_rows items span before))
+    silent_at at = omega (arith, ap length none_bytes)
 
-    pub silent-past : past ≡ part_last s past (span_rows items span before)
-    silent-past = sym (ap (part_last s past) none ∙ none_last s past)
+    pub silent_past : past ≡ part_last s past (span_rows items span before)
+    silent_past = sym (ap (part_last s past) none ∙ none_last s past)
 
-    pub silent-out : (out : List ℕ) (at : ℕ) → out ≡ sets out at (part_bytes s past (span_rows items span before))
-    silent-out out at = ap (sets out at) (sym none-bytes)
+    pub silent_out : (out : List ℕ) (at : ℕ) → out ≡ sets out at (part_bytes s past (span_rows items span before))
+    silent_out out at = ap (sets out at) (sym none_bytes)
 
   pub again_lead : SpanRises items span → shape.lead ≤ span.lasts
   again_lead rises = omega (arith, span_lead_within s items span rises, ap (λ (x : Shape). x.lead) is)
@@ -65,7 +65,7 @@ module _ (s : List ℕ) (items : Items) (span : Span) (shape : Shape) (is : shap
 
     many : length (part_bytes s past (span_rows items span before)) ≡ length (gap_bytes (before - past + shape.lead)) + shape.bytes
     many =
-        span-size s items span before past loud
+        span_size s items span before past loud
         ∙ ap₂ (λ (g n : ℕ). length (gap_bytes g) + n) (sym gap_is) (sym (ap (λ (x : Shape). x.bytes) is))
 
     pub again_past : (last : ℕ) → SpanRises items span → last ≡ before + span.lasts - shape.tail → last ≡ part_last s past (span_rows items span before)
@@ -73,36 +73,36 @@ module _ (s : List ℕ) (items : Items) (span : Span) (shape : Shape) (is : shap
         omega (arith, e, ap (λ (x : Shape). x.tail) is, span_tail s items span before past loud, last_within s past before (before + span.lasts) rows early (rises before))
 
     module _ (out : List ℕ) (at : ℕ) where
-      pub again-room : at + length (part_bytes s past (span_rows items span before)) ≤ length out
+      pub again_room : at + length (part_bytes s past (span_rows items span before)) ≤ length out
           → at + (length (gap_bytes (before - past + shape.lead)) + shape.bytes) ≤ length out
-      again-room room = omega (arith, many)
+      again_room room = omega (arith, many)
 
-      pub again-next : (n : ℕ) → n ≡ at + (length (gap_bytes (before - past + shape.lead)) + shape.bytes)
+      pub again_next : (n : ℕ) → n ≡ at + (length (gap_bytes (before - past + shape.lead)) + shape.bytes)
           → n ≡ at + length (part_bytes s past (span_rows items span before))
-      again-next n e = omega (arith, many)
+      again_next n e = omega (arith, many)
 
       module _ (place : ℕ) (written : WrittenWhereKnown (span_bytes s items span) place out at) (known : place ≡ 0 → ⊥) where
         pub again_behind : place + shape.bytes ≤ at
         again_behind = omega (arith, bytes_are, (written known).inside)
 
-        pub again-wrote : (m : List ℕ) → m ≡ sets out at (gap_bytes (before - past + shape.lead) ++ part out place shape.bytes)
+        pub again_wrote : (m : List ℕ) → m ≡ sets out at (gap_bytes (before - past + shape.lead) ++ part out place shape.bytes)
             → m ≡ sets out at (part_bytes s past (span_rows items span before))
-        again-wrote m e =
+        again_wrote m e =
             let stand : part out place shape.bytes ≡ span_bytes s items span = ap (part out place) bytes_are ∙ (written known).stand in
             e ∙ ap₂ (λ (g : ℕ) (bytes : List ℕ). sets out at (gap_bytes g ++ bytes)) gap_is stand
-            ∙ ap (sets out at) (sym (span-bytes s items span before past loud))
+            ∙ ap (sets out at) (sym (span_bytes_lem s items span before past loud))
 
 pub ruleset again = (
-  silent-at,
-  silent-past,
-  silent-out,
+  silent_at,
+  silent_past,
+  silent_out,
   again_lead,
   again_tail,
   again_past,
-  again-room,
-  again-next,
+  again_room,
+  again_next,
   again_behind,
-  again-wrote,
+  again_wrote,
 )
 
 -- WHERE BYTES STAND: when more is stored behind them, and once they are written

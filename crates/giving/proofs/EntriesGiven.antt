@@ -29,7 +29,7 @@ use Rattle.playing.proofs.Played.{written_front}
 use Rattle.giving.specs.Giving.{Names, entries_fitted}
 use Rattle.giving.specs.declared.NamedTrack.{NamedTrack}
 use Rattle.giving.specs.declared.NamedTrack.TheVariants as names
-use Rattle.giving.proofs.TrackNamed.{the_track, named-inside, named_small, not_named}
+use Rattle.giving.proofs.TrackNamed.{the_track, named_inside, named_small, not_named}
 use Rattle.giving.proofs.Seeking.{numbers_many}
 
 -- LETTERS COPIED
@@ -57,8 +57,8 @@ module _ (s : List ℕ) (from count : ℕ) (l out : List ℕ) (i : ℕ) (c : Cop
     pub copy_room : count ≤ length l → i < length out
     copy_room h = omega (arith, c.same)
 
-    pub copy-turns : from + count ≤ length s → (m : List ℕ) → m ≡ set out i (s ! (from + i)) → Copying s from count l m (i + 1)
-    copy-turns inside m e =
+    pub copy_turns : from + count ≤ length s → (m : List ℕ) → m ≡ set out i (s ! (from + i)) → Copying s from count l m (i + 1)
+    copy_turns inside m e =
         let some : count - i ≡ suc (count - (i + 1)) = omega arith in
         let after : suc (from + i) ≡ from + (i + 1) = omega arith in
         let first : part s (from + i) (count - i) ≡ s ! (from + i) ∷ part s (from + (i + 1)) (count - (i + 1)) =
@@ -73,7 +73,7 @@ module _ (s : List ℕ) (from count : ℕ) (l out : List ℕ) (i : ℕ) (c : Cop
               ∙ c.whole;
         }
 
-pub ruleset copies = (copy_starts, copy_kept, copy_ends, copy_room, copy-turns)
+pub ruleset copies = (copy_starts, copy_kept, copy_ends, copy_room, copy_turns)
 
 -- THE LETTERS of a seek body that is empty or has good form
 
@@ -105,17 +105,17 @@ module _ (phrases : Bool) (seek : List ℕ) (formed : Formed phrases seek) where
       subst Stands (sym (if_false _ _ _ h)) (o.stands, o.fits))
 
   module _ (points : Points) (said : points ≡ points_said (entries_said phrases seek)) where
-    at-order : points.order ≡ (order_place entries otherwise 0)
+    at_order : points.order ≡ (order_place entries otherwise 0)
     unfolding points_said
-    at-order = ap (λ (p : Points). p.order) said
+    at_order = ap (λ (p : Points). p.order) said
 
-    pub letters-inside : points.order + points.letters ≤ length seek
+    pub letters_inside : points.order + points.letters ≤ length seek
     unfolding letters_of
-    letters-inside = omega (arith, at-order, letters_many phrases seek points said, list_stands.1)
+    letters_inside = omega (arith, at_order, letters_many phrases seek points said, list_stands.1)
 
-    letters-are : part seek points.order points.letters ≡ letters_of (entries_said phrases seek)
+    letters_are : part seek points.order points.letters ≡ letters_of (entries_said phrases seek)
     unfolding letters_of
-    letters-are = ap₂ (part seek) at-order (letters_many phrases seek points said) ∙ sym list_stands.0
+    letters_are = ap₂ (part seek) at_order (letters_many phrases seek points said) ∙ sym list_stands.0
 
 -- WHAT IS ANSWERED
 
@@ -160,14 +160,14 @@ module _ (phrases : Bool) (seek : List ℕ) (count : ℕ) (many : count ≡ leng
     short : entries_fitted room space (entries_said phrases seek) ≡ refused 15 0
     short = no_rows room space (entries_said phrases seek) (omega arith)
 
-    pub short-answer : told.Refused 15 0 ≡ entries_answer (entries_fitted room space (entries_said phrases seek))
-    short-answer = refused_answer _ 15 0 short
+    pub short_answer : told.Refused 15 0 ≡ entries_answer (entries_fitted room space (entries_said phrases seek))
+    short_answer = refused_answer _ 15 0 short
 
-    pub short-table : (l : List ℕ) → l ≡ entries_table l (entries_fitted room space (entries_said phrases seek))
-    short-table = refused_table _ 15 0 short
+    pub short_table : (l : List ℕ) → l ≡ entries_table l (entries_fitted room space (entries_said phrases seek))
+    short_table = refused_table _ 15 0 short
 
-    pub short-letters : (l : List ℕ) → l ≡ letters_table l (entries_fitted room space (entries_said phrases seek))
-    short-letters = refused_letters _ 15 0 short
+    pub short_letters : (l : List ℕ) → l ≡ letters_table l (entries_fitted room space (entries_said phrases seek))
+    short_letters = refused_letters _ 15 0 short
 
   module _ (points : Points) (said : points ≡ points_said (entries_said phrases seek)) (room space : ℕ) (enough : count ≤ room / 4) where
     letters : points.letters ≡ length (letters_of (entries_said phrases seek))
@@ -177,41 +177,41 @@ module _ (phrases : Bool) (seek : List ℕ) (count : ℕ) (many : count ≡ leng
       scant : entries_fitted room space (entries_said phrases seek) ≡ refused 15 0
       scant = no_letters room space (entries_said phrases seek) (omega arith) (omega (arith, letters))
 
-      pub scant-answer : told.Refused 15 0 ≡ entries_answer (entries_fitted room space (entries_said phrases seek))
-      scant-answer = refused_answer _ 15 0 scant
+      pub scant_answer : told.Refused 15 0 ≡ entries_answer (entries_fitted room space (entries_said phrases seek))
+      scant_answer = refused_answer _ 15 0 scant
 
-      pub scant-table : (l : List ℕ) → l ≡ entries_table l (entries_fitted room space (entries_said phrases seek))
-      scant-table = refused_table _ 15 0 scant
+      pub scant_table : (l : List ℕ) → l ≡ entries_table l (entries_fitted room space (entries_said phrases seek))
+      scant_table = refused_table _ 15 0 scant
 
-      pub scant-letters : (l : List ℕ) → l ≡ letters_table l (entries_fitted room space (entries_said phrases seek))
-      scant-letters = refused_letters _ 15 0 scant
+      pub scant_letters : (l : List ℕ) → l ≡ letters_table l (entries_fitted room space (entries_said phrases seek))
+      scant_letters = refused_letters _ 15 0 scant
 
     module _ (fit : points.letters ≤ space) where
       given : entries_fitted room space (entries_said phrases seek) ≡ fine (entries_said phrases seek)
       given = all_fit room space (entries_said phrases seek) (omega arith) (omega (arith, letters))
 
-      pub given-answer : told.Rows count points.letters ≡ entries_answer (entries_fitted room space (entries_said phrases seek))
+      pub given_answer : told.Rows count points.letters ≡ entries_answer (entries_fitted room space (entries_said phrases seek))
       unfolding entries_answer
-      given-answer = ap₂ told.Rows many letters ∙ ap entries_answer (sym given)
+      given_answer = ap₂ told.Rows many letters ∙ ap entries_answer (sym given)
 
   module _ (points : Points) (said : points ≡ points_said (entries_said phrases seek)) (l m : List ℕ) where
-    pub given-table : (space : ℕ) → count ≤ length l / 4 → points.letters ≤ space → m ≡ sets l 0 (entries_numbers (entries_said phrases seek))
+    pub given_table : (space : ℕ) → count ≤ length l / 4 → points.letters ≤ space → m ≡ sets l 0 (entries_numbers (entries_said phrases seek))
         → m ≡ entries_table l (entries_fitted (length l) space (entries_said phrases seek))
     unfolding entries_table memory_after
-    given-table space enough fit e =
+    given_table space enough fit e =
         e ∙ written_front l (entries_numbers (entries_said phrases seek)) (omega (arith, many, numbers_many (entries_said phrases seek)))
         ∙ ap (entries_table l) (sym (given points said (length l) space enough fit))
 
-    pub given-letters : (room : ℕ) → Formed phrases seek → count ≤ room / 4 → points.letters ≤ length l → m ≡ sets l 0 (part seek points.order points.letters)
+    pub given_letters : (room : ℕ) → Formed phrases seek → count ≤ room / 4 → points.letters ≤ length l → m ≡ sets l 0 (part seek points.order points.letters)
         → m ≡ letters_table l (entries_fitted room (length l) (entries_said phrases seek))
     unfolding letters_table memory_after
-    given-letters room formed enough fit e =
-        e ∙ ap (sets l 0) (letters-are phrases seek formed points said)
+    given_letters room formed enough fit e =
+        e ∙ ap (sets l 0) (letters_are phrases seek formed points said)
         ∙ written_front l (letters_of (entries_said phrases seek)) (omega (arith, letters_many phrases seek points said))
         ∙ ap (letters_table l) (sym (given points said room (length l) enough fit))
 
 pub ruleset entries_given_lem =
-    (letters-inside, short-answer, short-table, short-letters, scant-answer, scant-table, scant-letters, given-answer, given-table, given-letters)
+    (letters_inside, short_answer, short_table, short_letters, scant_answer, scant_table, scant_letters, given_answer, given_table, given_letters)
 
 -- THE BODIES of a track
 
@@ -251,36 +251,36 @@ fitted_track room space c track e =
 
 module _ (buffer : List ℕ) (n row : ℕ) (r : NamedTrack) (named : Names (take n buffer) (track_named buffer n row) r) (room space : ℕ) where
   module _ (bodies : Bodies) (e : r ≡ names.At bodies) where
-    entries-are : entries_fitted room space (entries_said bodies.phrases (bytes_in (take n buffer) bodies.seek)) ≡ entries_of_track buffer n row room space
+    entries_are : entries_fitted room space (entries_said bodies.phrases (bytes_in (take n buffer) bodies.seek)) ≡ entries_of_track buffer n row room space
     unfolding entries_of_track
-    entries-are =
+    entries_are =
         let track = the_track buffer n row r named bodies e in
         ap (entries_fitted room space) (sym track.2.entries) ∙ sym (fitted_track room space (track_named buffer n row) track.0 track.1)
 
-    pub track-answer : (x : EntriesAnswer) → x ≡ entries_answer (entries_fitted room space (entries_said bodies.phrases (bytes_in (take n buffer) bodies.seek)))
+    pub track_answer : (x : EntriesAnswer) → x ≡ entries_answer (entries_fitted room space (entries_said bodies.phrases (bytes_in (take n buffer) bodies.seek)))
         → x ≡ entries_answer (entries_of_track buffer n row room space)
-    track-answer = same_answer _ _ entries-are
+    track_answer = same_answer _ _ entries_are
 
-    pub track-table : (l m : List ℕ) → m ≡ entries_table l (entries_fitted room space (entries_said bodies.phrases (bytes_in (take n buffer) bodies.seek)))
+    pub track_table : (l m : List ℕ) → m ≡ entries_table l (entries_fitted room space (entries_said bodies.phrases (bytes_in (take n buffer) bodies.seek)))
         → m ≡ entries_table l (entries_of_track buffer n row room space)
-    track-table = same_table _ _ entries-are
+    track_table = same_table _ _ entries_are
 
-    pub track-letters : (l m : List ℕ) → m ≡ letters_table l (entries_fitted room space (entries_said bodies.phrases (bytes_in (take n buffer) bodies.seek)))
+    pub track_letters : (l m : List ℕ) → m ≡ letters_table l (entries_fitted room space (entries_said bodies.phrases (bytes_in (take n buffer) bodies.seek)))
         → m ≡ letters_table l (entries_of_track buffer n row room space)
-    track-letters = same_letters _ _ entries-are
+    track_letters = same_letters _ _ entries_are
 
   module _ (number place : ℕ) (e : r ≡ names.Refused number place) where
-    no-entries : entries_of_track buffer n row room space ≡ refused number place
+    no_entries : entries_of_track buffer n row room space ≡ refused number place
     unfolding entries_of_track ◌>>=◌
-    no-entries = rw (not_named buffer n row r named number place e)
+    no_entries = rw (not_named buffer n row r named number place e)
 
-    pub unnamed-answer : told.Refused number place ≡ entries_answer (entries_of_track buffer n row room space)
-    unnamed-answer = refused_answer _ number place no-entries
+    pub unnamed_answer : told.Refused number place ≡ entries_answer (entries_of_track buffer n row room space)
+    unnamed_answer = refused_answer _ number place no_entries
 
-    pub unnamed-table : (l : List ℕ) → l ≡ entries_table l (entries_of_track buffer n row room space)
-    unnamed-table = refused_table _ number place no-entries
+    pub unnamed_table : (l : List ℕ) → l ≡ entries_table l (entries_of_track buffer n row room space)
+    unnamed_table = refused_table _ number place no_entries
 
-    pub unnamed-letters : (l : List ℕ) → l ≡ letters_table l (entries_of_track buffer n row room space)
-    unnamed-letters = refused_letters _ number place no-entries
+    pub unnamed_letters : (l : List ℕ) → l ≡ letters_table l (entries_of_track buffer n row room space)
+    unnamed_letters = refused_letters _ number place no_entries
 
-pub ruleset track_entries = (named-inside, named_small, track-answer, track-table, track-letters, unnamed-answer, unnamed-table, unnamed-letters)
+pub ruleset track_entries = (named_inside, named_small, track_answer, track_table, track_letters, unnamed_answer, unnamed_table, unnamed_letters)

@@ -28,17 +28,17 @@ use Rattle.model.proofs.Tests.{by_test}
 use Rattle.model.proofs.Walks.{Stand, stand_first, stand_never_stuck, stand_over}
 use Rattle.model.proofs.Stores.{sets_append}
 use Rattle.items.proofs.Ahead.{item_goes}
-use Rattle.items.proofs.Addresses.{stands_ahead, timed-met, mark-met, refused_stuck, reads_to_items}
+use Rattle.items.proofs.Addresses.{stands_ahead, timed_met, mark_met, refused_stuck, reads_to_items}
 use Rattle.items.proofs.Standing.{body_stands}
 use Rattle.sections.specs.Taking.{AllBytes, ItemAgrees}
 use Rattle.sections.specs.declared.Taken.{Taken}
-use Rattle.sections.proofs.InWords.{ItemInWord, item-in-word}
+use Rattle.sections.proofs.InWords.{ItemInWord, item_in_word}
 use Rattle.playing.specs.Performing.{bytes_in, Inside}
 use Rattle.playing.proofs.Played.{written_front}
 use Rattle.giving.specs.Giving.{Names, word_given, items_fitted}
 use Rattle.giving.specs.declared.NamedTrack.{NamedTrack}
 use Rattle.giving.specs.declared.NamedTrack.TheVariants as names
-use Rattle.giving.proofs.TrackNamed.{the_track, named-inside, named_small, not_named}
+use Rattle.giving.proofs.TrackNamed.{the_track, named_inside, named_small, not_named}
 
 abbrev Items : Type 0
 Items = List (Placed (Item Event))
@@ -129,11 +129,11 @@ module _ (voice : Voice) (s l out : List ℕ) (at next : ℕ) (g : Giving voice 
     where
       go : (j : ReadItem) → item_at voice s at ≡ j → ItemAgrees taken j → Took taken
       go (Timed duration event after) e a =
-          let there : InWord event = (subst ItemInWord e (item-in-word s g.bytes g.small voice at)).1 in
-          let on = further (timed duration event) after here (timed-met voice s at (item_at voice s at) refl duration after event e) in
+          let there : InWord event = (subst ItemInWord e (item_in_word s g.bytes g.small voice at)).1 in
+          let on = further (timed duration event) after here (timed_met voice s at (item_at voice s at) refl duration after event e) in
           subst Took (sym a) (record { what = timed duration event; on = on; lasts = refl; word = event_given_lem event there })
       go (EndMark after) e a =
-          let on = further end_mark after here (mark-met voice s at (item_at voice s at) refl after e) in
+          let on = further end_mark after here (mark_met voice s at (item_at voice s at) refl after e) in
           subst Took (sym a) (record { what = end_mark; on = on; lasts = refl; word = mark_given })
       go (Refused number place) e a =
           absurd
@@ -147,15 +147,15 @@ module _ (voice : Voice) (s l out : List ℕ) (at next : ℕ) (g : Giving voice 
     many : length g.rest ≡ 1 + length one.on.more
     many = omega (arith, ap length one.on.splits)
 
-    pub give-nears : length s - taken.next < length s - at
-    give-nears = one.on.nears
+    pub give_nears : length s - taken.next < length s - at
+    give_nears = one.on.nears
 
-    pub give-room : next + 2 ≤ length out
-    give-room = omega (arith, many, g.room)
+    pub give_room : next + 2 ≤ length out
+    give_room = omega (arith, many, g.room)
 
-    pub give-turns : (word : ℕ) (m : List ℕ) → word ≡ word_given taken.word taken.mark → m ≡ sets out next (taken.duration ∷ word ∷ []) → length m ≡ length out
+    pub give_turns : (word : ℕ) (m : List ℕ) → word ≡ word_given taken.word taken.mark → m ≡ sets out next (taken.duration ∷ word ∷ []) → length m ≡ length out
         → Giving voice s l m taken.next (next + 2)
-    give-turns word m w e kept =
+    give_turns word m w e kept =
         let item : Placed (Item Event) = record { place = at; what = one.what } in
         record {
           bytes = g.bytes;
@@ -172,7 +172,7 @@ module _ (voice : Voice) (s l out : List ℕ) (at next : ℕ) (g : Giving voice 
               ∙ g.whole;
         }
 
-pub ruleset gives = (give_starts, give_bytes, give_kept, give_ends, give-nears, give-room, give-turns)
+pub ruleset gives = (give_starts, give_bytes, give_kept, give_ends, give_nears, give_room, give_turns)
 
 -- HOW MANY
 
@@ -260,19 +260,19 @@ fitted_track room c track e = rw e (by_test (room / 2 <? length track.items) (λ
 
 module _ (buffer : List ℕ) (n row : ℕ) (r : NamedTrack) (told : Names (take n buffer) (track_named buffer n row) r) (room : ℕ) where
   module _ (bodies : Bodies) (e : r ≡ names.At bodies) where
-    items-are : items_fitted room (items_of bodies.voice (bytes_in (take n buffer) bodies.sequence)) ≡ items_of_track buffer n row room
+    items_are : items_fitted room (items_of bodies.voice (bytes_in (take n buffer) bodies.sequence)) ≡ items_of_track buffer n row room
     unfolding items_of_track
-    items-are =
+    items_are =
         let track = the_track buffer n row r told bodies e in
         ap (items_fitted room) (sym track.2.items) ∙ sym (fitted_track room (track_named buffer n row) track.0 track.1)
 
-    pub track-answer : (x : Counted) → x ≡ items_answer (items_fitted room (items_of bodies.voice (bytes_in (take n buffer) bodies.sequence)))
+    pub track_answer : (x : Counted) → x ≡ items_answer (items_fitted room (items_of bodies.voice (bytes_in (take n buffer) bodies.sequence)))
         → x ≡ items_answer (items_of_track buffer n row room)
-    track-answer x = same_answer _ _ x items-are
+    track_answer x = same_answer _ _ x items_are
 
-    pub track-table : (l m : List ℕ) → m ≡ items_table l (items_fitted room (items_of bodies.voice (bytes_in (take n buffer) bodies.sequence)))
+    pub track_table : (l m : List ℕ) → m ≡ items_table l (items_fitted room (items_of bodies.voice (bytes_in (take n buffer) bodies.sequence)))
         → m ≡ items_table l (items_of_track buffer n row room)
-    track-table l m = same_table _ _ l m items-are
+    track_table l m = same_table _ _ l m items_are
 
   module _ (number place : ℕ) (e : r ≡ names.Refused number place) where
     no_items : items_of_track buffer n row room ≡ refused number place
@@ -285,4 +285,4 @@ module _ (buffer : List ℕ) (n row : ℕ) (r : NamedTrack) (told : Names (take 
     pub no_table : (l : List ℕ) → l ≡ items_table l (items_of_track buffer n row room)
     no_table l = refused_table _ number place l no_items
 
-pub ruleset tracks_given = (named-inside, named_small, track-answer, track-table, no_answer, no_table)
+pub ruleset tracks_given = (named_inside, named_small, track_answer, track_table, no_answer, no_table)

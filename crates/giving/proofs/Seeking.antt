@@ -22,7 +22,7 @@ use Rattle.model.proofs.Stores.{sets_append}
 use Rattle.model.proofs.Tests.{by_test, if_true, if_false}
 use Rattle.seek.specs.Next.{is_refused, end_of, next_at, KnownAt}
 use Rattle.seek.proofs.Ahead.{entry_of, placed}
-use Rattle.seek.proofs.Standing.{Entries, Standing, standing_starts, Walking, Met, walk_ends, walk_meets, walk_known, walk-nears, walk-turns}
+use Rattle.seek.proofs.Standing.{Entries, Standing, standing_starts, Walking, Met, walk_ends, walk_meets, walk_known, walk_nears, walk_turns}
 use Rattle.playing.specs.Performing.{entries_said, Formed}
 use Rattle.giving.specs.Giving.{entry_read, letters_read}
 
@@ -56,24 +56,24 @@ module _ (phrases : Bool) (s : List ℕ) (count at : ℕ) (c : Counting phrases 
   count_ends past = omega (arith, walk_ends _ phrases s at c.walk past)
 
   module _ (here : at < length s) where
-    pub count-known : KnownAt (point_width phrases) s at
-    count-known = walk_known _ phrases s at c.walk here
+    pub count_known : KnownAt (point_width phrases) s at
+    count_known = walk_known _ phrases s at c.walk here
 
     pub count_fits : length s ≤ 65536 → Fits w64 (count + 1)
     count_fits small = record { fits = omega (arith, c.few) }
 
     module _ (entry : ReadEntry) (next : ℕ) (is : entry ≡ next_at (point_width phrases) s at) (ends : next ≡ end_of entry) where
-      pub count-nears : length s - next < length s - at
-      count-nears = walk-nears _ phrases s at c.walk entry here is next ends
+      pub count_nears : length s - next < length s - at
+      count_nears = walk_nears _ phrases s at c.walk entry here is next ends
 
-      pub count-turns : Counting phrases s (count + 1) next
-      count-turns =
+      pub count_turns : Counting phrases s (count + 1) next
+      count_turns =
           record {
-            walk = walk-turns _ phrases s at c.walk entry here is next ends _ (λ more m same. omega arith);
-            few = omega (arith, c.few, count-nears);
+            walk = walk_turns _ phrases s at c.walk entry here is next ends _ (λ more m same. omega arith);
+            few = omega (arith, c.few, count_nears);
           }
 
-pub ruleset entries_counted = (count_starts, count_ends, count-known, count_fits, count-nears, count-turns)
+pub ruleset entries_counted = (count_starts, count_ends, count_known, count_fits, count_nears, count_turns)
 
 -- ONE ENTRY
 
@@ -143,25 +143,25 @@ module _ (phrases : Bool) (s l out : List ℕ) (at next : ℕ) (f : Storing phra
   store_ends past = (walk_ends _ phrases s at f.walk past).1
 
   module _ (here : at < length s) where
-    pub store-known : KnownAt (point_width phrases) s at
-    store-known = walk_known _ phrases s at f.walk here
+    pub store_known : KnownAt (point_width phrases) s at
+    store_known = walk_known _ phrases s at f.walk here
 
     module _ (entry : ReadEntry) (is : entry ≡ next_at (point_width phrases) s at) where
-      pub store-room : next + 4 ≤ length out
-      store-room = walk_meets _ phrases s at f.walk entry here is (λ more m held. omega (arith, held.0))
+      pub store_room : next + 4 ≤ length out
+      store_room = walk_meets _ phrases s at f.walk entry here is (λ more m held. omega (arith, held.0))
 
-      pub store-letters : letters_read entry ≤ 65536
-      store-letters = walk_meets _ phrases s at f.walk entry here is (λ more m held. omega (arith, few_letters s at entry more m, f.small))
+      pub store_letters : letters_read entry ≤ 65536
+      store_letters = walk_meets _ phrases s at f.walk entry here is (λ more m held. omega (arith, few_letters s at entry more m, f.small))
 
       module _ (after : ℕ) (ends : after ≡ end_of entry) where
-        pub store-nears : length s - after < length s - at
-        store-nears = walk-nears _ phrases s at f.walk entry here is after ends
+        pub store_nears : length s - after < length s - at
+        store_nears = walk_nears _ phrases s at f.walk entry here is after ends
 
-        pub store-turns : (m : List ℕ) → m ≡ sets out next (entry_read entry) → length m ≡ length out → Storing phrases s l m after (next + 4)
-        store-turns m e kept =
+        pub store_turns : (m : List ℕ) → m ≡ sets out next (entry_read entry) → length m ≡ length out → Storing phrases s l m after (next + 4)
+        store_turns m e kept =
             record {
               walk =
-                  walk-turns _ phrases s at f.walk entry here is after ends _
+                  walk_turns _ phrases s at f.walk entry here is after ends _
                   (λ more met held. (
                     omega (arith, held.0),
                     ap (λ (x : List ℕ). sets x (next + 4) (entries_numbers more)) (e ∙ ap (sets out next) (read_numbers s at entry more met))
@@ -172,4 +172,4 @@ module _ (phrases : Bool) (s l out : List ℕ) (at next : ℕ) (f : Storing phra
               same = kept ∙ f.same;
             }
 
-pub ruleset entries_stored = (store_starts, store_kept, store_ends, store-known, store-room, store-letters, store-nears, store-turns)
+pub ruleset entries_stored = (store_starts, store_kept, store_ends, store_known, store_room, store_letters, store_nears, store_turns)

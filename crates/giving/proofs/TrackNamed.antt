@@ -18,7 +18,7 @@ use Rattle.model.specs.declared.OpenedTrack.TheVariants as opened
 use Rattle.model.specs.declared.Counted.{Counted}
 use Rattle.model.specs.declared.Counted.TheVariants as counted
 use Rattle.reading.specs.Stages.{file_answer}
-use Rattle.reading.proofs.Stated.{stated_past, stated_over, stated-within, stated_small}
+use Rattle.reading.proofs.Stated.{stated_past, stated_over, stated_within, stated_small}
 use Rattle.playing.specs.Performing.{Inside, Open, Opens, track_named as trackOpened}
 use Rattle.playing.proofs.RowPerformed.{stated_fine, opens_some, opens_none}
 use Rattle.giving.specs.Giving.{row_named, Names}
@@ -94,7 +94,7 @@ module _ (buffer : List ℕ) (n row : ℕ) where
 
   pub within_names : (r : NamedTrack) → n ≤ length buffer → n ≤ 65536 → Names (take n buffer) (row_named (contents_of (take n buffer)) row) r
       → Names (take n buffer) (track_named buffer n row) r
-  within_names r h k = same_names (take n buffer) _ _ r (sym (named_is buffer n row (contents_of (take n buffer)) (stated-within buffer n h k)))
+  within_names r h k = same_names (take n buffer) _ _ r (sym (named_is buffer n row (contents_of (take n buffer)) (stated_within buffer n h k)))
 
 pub ruleset buffers_named = (past_names, over_names, stated_small, within_names)
 
@@ -118,11 +118,11 @@ module _ (buffer : List ℕ) (n row : ℕ) (r : NamedTrack) (told : Names (take 
     pub the_track : (track : Track) × (track_named buffer n row ≡ fine track) × Open (take n buffer) bodies track
     the_track = names_fine (take n buffer) (track_named buffer n row) bodies (subst (Names (take n buffer) (track_named buffer n row)) e told)
 
-    pub named-inside : Inside (take n buffer) bodies
-    named-inside = the_track.2.inside
+    pub named_inside : Inside (take n buffer) bodies
+    named_inside = the_track.2.inside
 
-    pub named-within : n ≤ length buffer
-    named-within =
+    pub named_within : n ≤ length buffer
+    named_within =
         elim (dec_lt (length buffer) n) [
           | yes h ↦ absurd (never_both (track_named buffer n row) the_track.0 1 0 the_track.1 (past buffer n row h))
           | no h ↦ omega arith
@@ -131,8 +131,8 @@ module _ (buffer : List ℕ) (n row : ℕ) (r : NamedTrack) (told : Names (take 
     pub named_small : length (take n buffer) ≤ 65536
     named_small =
         elim (dec_lt 65536 n) [
-          | yes h ↦ absurd (never_both (track_named buffer n row) the_track.0 1 0 the_track.1 (over buffer n row named-within h))
-          | no h ↦ stated_small buffer n named-within (omega arith)
+          | yes h ↦ absurd (never_both (track_named buffer n row) the_track.0 1 0 the_track.1 (over buffer n row named_within h))
+          | no h ↦ stated_small buffer n named_within (omega arith)
         ]
 
   pub not_named : (number place : ℕ) → r ≡ names.Refused number place → track_named buffer n row ≡ refused number place

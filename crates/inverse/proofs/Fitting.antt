@@ -46,13 +46,13 @@ module _ (s : List ℕ) where
   gated_inside voice byte (duration.Refused number place) = tt
 
   module _ (voice : Voice) (at : ℕ) where
-    sound-inside : ReadInside s (sound_at voice s at)
+    sound_inside : ReadInside s (sound_at voice s at)
     unfolding sound_at
-    sound-inside = if_all (ReadInside s) (is_sound voice (s ! at)) _ _ (λ h. gated_inside voice (s ! at) (gate_at s (at + 1))) (λ h. tt)
+    sound_inside = if_all (ReadInside s) (is_sound voice (s ! at)) _ _ (λ h. gated_inside voice (s ! at) (gate_at s (at + 1))) (λ h. tt)
 
-    formed-inside : (byte : ℕ) → ReadInside s (formed voice s at byte)
+    formed_inside : (byte : ℕ) → ReadInside s (formed voice s at byte)
     unfolding formed long_at short_at
-    formed-inside byte =
+    formed_inside byte =
         let P = ReadInside s in
         if_all P (byte / 16 % 4 ≡? 3) _ _
         (λ a. let kind = long_kind (byte % 16) in
@@ -65,13 +65,13 @@ module _ (s : List ℕ) where
         (λ b. if_all P (byte % 16 ≡? 0) _ _ (λ c. tt)
         (λ c. if_all P (byte % 16 ≡? 15) _ _ (λ d. tt) (λ d. tt))))
 
-    control-inside : ReadInside s (control_at voice s at)
+    control_inside : ReadInside s (control_at voice s at)
     unfolding control_at
-    control-inside = if_all (ReadInside s) (length s ≤? at + 1) _ _ (λ h. tt) (λ h. formed-inside (s ! (at + 1)))
+    control_inside = if_all (ReadInside s) (length s ≤? at + 1) _ _ (λ h. tt) (λ h. formed_inside (s ! (at + 1)))
 
-    closed-inside : (size : ℕ) → ReadInside s (closed_at s at size)
+    closed_inside : (size : ℕ) → ReadInside s (closed_at s at size)
     unfolding closed_at exclusive_fits
-    closed-inside size =
+    closed_inside size =
         let P = ReadInside s in
         if_all P (size <? 3) _ _ (λ a. tt)
         (λ a. if_all P (length s ≤? at + 2 + size) _ _ (λ b. tt)
@@ -83,23 +83,23 @@ module _ (s : List ℕ) where
         both_true (3 ≤? size) _ (le-leb 3 size long) (both_true (at + 3 + size ≤? length s) _ (le-leb (at + 3 + size) (length s) within) c))
         (λ c. tt)))
 
-    system-inside : ReadInside s (system_at s at)
+    system_inside : ReadInside s (system_at s at)
     unfolding system_at exclusive_at
-    system-inside =
+    system_inside =
         let P = ReadInside s in
         if_all P (length s ≤? at + 1) _ _ (λ a. tt)
         (λ a. if_all P (s ! (at + 1) ≡? 0x00) _ _ (λ b. tt)
         (λ b. if_all P (s ! (at + 1) ≡? 0xF0) _ _
-        (λ c. if_all P (length s ≤? at + 2) _ _ (λ d. tt) (λ d. closed-inside (s ! (at + 2))))
+        (λ c. if_all P (length s ≤? at + 2) _ _ (λ d. tt) (λ d. closed_inside (s ! (at + 2))))
         (λ c. tt)))
 
-    event-inside : ReadInside s (event_at voice s at)
+    event_inside : ReadInside s (event_at voice s at)
     unfolding event_at
-    event-inside =
+    event_inside =
         let P = ReadInside s in
         if_all P (length s ≤? at) _ _ (λ a. tt)
-        (λ a. if_all P (s ! at ≡? 0x00) _ _ (λ b. control-inside)
-        (λ b. if_all P (s ! at ≡? 0xFF) _ _ (λ c. system-inside) (λ c. sound-inside)))
+        (λ a. if_all P (s ! at ≡? 0x00) _ _ (λ b. control_inside)
+        (λ b. if_all P (s ! at ≡? 0xFF) _ _ (λ c. system_inside) (λ c. sound_inside)))
 
   fits_inside : (voice : Voice) (what : Event) → content_fits voice (content_of s what) ≡ true → Inside s what → event_fits voice s what ≡ true
   unfolding event_fits content_fits content_of
@@ -115,20 +115,20 @@ module _ (s : List ℕ) where
     ItemFits (EndMark next) = Unit
     ItemFits (Refused number place) = Unit
 
-    with-event-fits : (value next : ℕ) (e : ReadEvent) → EventStands voice s next e → ReadInside s e → ItemFits (with_event value e)
+    with_event_fits : (value next : ℕ) (e : ReadEvent) → EventStands voice s next e → ReadInside s e → ItemFits (with_event value e)
     unfolding with_event
-    with-event-fits value next (event.Is what after) st i = fits_inside voice what st.0 i
-    with-event-fits value next (event.Refused number place) st i = tt
+    with_event_fits value next (event.Is what after) st i = fits_inside voice what st.0 i
+    with_event_fits value next (event.Refused number place) st i = tt
 
-    with-duration-fits : (d : ReadDuration) → ItemFits (with_duration voice s d)
+    with_duration_fits : (d : ReadDuration) → ItemFits (with_duration voice s d)
     unfolding with_duration
-    with-duration-fits (duration.Is value next) =
-        with-event-fits value next (event_at voice s next) (event_stands s bytes voice next) (event-inside voice next)
-    with-duration-fits (duration.Refused number place) = tt
+    with_duration_fits (duration.Is value next) =
+        with_event_fits value next (event_at voice s next) (event_stands s bytes voice next) (event_inside voice next)
+    with_duration_fits (duration.Refused number place) = tt
 
-    item-fits : (at : ℕ) → ItemFits (item_at voice s at)
+    item_fits : (at : ℕ) → ItemFits (item_at voice s at)
     unfolding item_at
-    item-fits at = if_all ItemFits (is_end_mark s at) _ _ (λ h. tt) (λ h. with-duration-fits (duration_at s at))
+    item_fits at = if_all ItemFits (is_end_mark s at) _ _ (λ h. tt) (λ h. with_duration_fits (duration_at s at))
 
     pub read_fits : (at value : ℕ) (what : Event) (next : ℕ) → item_at voice s at ≡ Timed value what next → event_fits voice s what ≡ true
-    read_fits at value what next e = subst ItemFits e (item-fits at)
+    read_fits at value what next e = subst ItemFits e (item_fits at)

@@ -50,16 +50,16 @@ module _ (voice : Voice) (s : List ℕ) (bytes : (k : ℕ) → s ! k < 256) wher
       )
 
   module _ (placed : List (Placed (Item Event))) (reads : body_of voice s ≡ fine placed) where
-    pub body-some : 0 < length (contents_in s placed)
+    pub body_some : 0 < length (contents_in s placed)
     unfolding contents_in
-    body-some = go placed (body_stands voice s placed reads)
+    body_some = go placed (body_stands voice s placed reads)
       where
         go : (items : List (Placed (Item Event))) → Stand (length s) (item_step voice s) 0 items → 0 < length (contents_in s items)
         go [] st = absurd (omega (arith, body_not_empty voice s placed reads))
         go (item ∷ rest) st = omega arith
 
-    pub body-fits : AllFit voice (contents_in s placed)
-    body-fits = (stand_writes placed 0 (body_stands voice s placed reads)).0
+    pub body_fits : AllFit voice (contents_in s placed)
+    body_fits = (stand_writes placed 0 (body_stands voice s placed reads)).0
 
-    pub body-writes : bytes_of handy_phone (contents_in s placed) ≡ s
-    body-writes = (stand_writes placed 0 (body_stands voice s placed reads)).1
+    pub body_writes : bytes_of handy_phone (contents_in s placed) ≡ s
+    body_writes = (stand_writes placed 0 (body_stands voice s placed reads)).1

@@ -60,20 +60,20 @@ module _ (voice : Voice) (s : List ℕ) (at : ℕ) (item : Placed (Item Event)) 
 -- what is read at a place is met there, and ends nearer to the body's end
 module _ (voice : Voice) (s : List ℕ) (at : ℕ) (i : ReadItem) (is : i ≡ item_at voice s at) where
   module _ (duration next : ℕ) (event : Event) (e : i ≡ Timed duration event next) where
-    pub timed-met : item_step voice s at ≡ met (record { place = at; what = timed duration event }) next
+    pub timed_met : item_step voice s at ≡ met (record { place = at; what = timed duration event }) next
     unfolding item_step item_met
-    timed-met = ap (item_met at) (sym is ∙ e)
+    timed_met = ap (item_met at) (sym is ∙ e)
 
-    pub timed-nears : length s - next < length s - at
-    timed-nears = omega (arith, stands_ahead voice s at _ next timed-met)
+    pub timed_nears : length s - next < length s - at
+    timed_nears = omega (arith, stands_ahead voice s at _ next timed_met)
 
   module _ (next : ℕ) (e : i ≡ EndMark next) where
-    pub mark-met : item_step voice s at ≡ met (record { place = at; what = end_mark }) next
+    pub mark_met : item_step voice s at ≡ met (record { place = at; what = end_mark }) next
     unfolding item_step item_met
-    mark-met = ap (item_met at) (sym is ∙ e)
+    mark_met = ap (item_met at) (sym is ∙ e)
 
-    pub mark-nears : length s - next < length s - at
-    mark-nears = omega (arith, stands_ahead voice s at _ next mark-met)
+    pub mark_nears : length s - next < length s - at
+    mark_nears = omega (arith, stands_ahead voice s at _ next mark_met)
 
   pub refused_stuck : (number place : ℕ) → i ≡ Refused number place → item_step voice s at ≡ stuck number place
   unfolding item_step item_met
@@ -179,11 +179,11 @@ module _ (voice : Voice) (s : List ℕ) (address at : ℕ) (r : Reaching voice s
               omega arith,
             )
 
-    pub reach-passes : Reaching voice s address next
-    reach-passes = further.0
+    pub reach_passes : Reaching voice s address next
+    reach_passes = further.0
 
-    pub reach-nears : length s - next < length s - at
-    reach-nears = further.1
+    pub reach_nears : length s - next < length s - at
+    reach_nears = further.1
 
 -- the walk may start at an address that is not past the one that is asked for
 
@@ -217,4 +217,4 @@ module _ (voice : Voice) (s : List ℕ) (from address : ℕ) (order : from ≤ a
   reach_starts h known =
       walks_to (items_of voice s) 0 (body_stands voice s (items_of voice s) (reads_to_items voice s h)) (omega arith) (omega arith) known refl
 
-pub ruleset reaching = (reach_starts, reach_ends, reach_runs_out, reach-passes, reach-nears)
+pub ruleset reaching = (reach_starts, reach_ends, reach_runs_out, reach_passes, reach_nears)

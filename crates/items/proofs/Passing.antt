@@ -55,24 +55,24 @@ module _ (voice : Voice) (s : List ℕ) (at : ℕ) (there : at + 1 < length s) (
 
   -- and its gate time takes one byte too
   module _ (room : at + 2 < length s) (short : s ! (at + 2) < 128) where
-    gate-is : gate_at s (at + 1 + 1) ≡ not_zero (at + 2) (duration.Is (s ! (at + 2)) (at + 3))
+    gate_is : gate_at s (at + 1 + 1) ≡ not_zero (at + 2) (duration.Is (s ! (at + 2)) (at + 3))
     unfolding gate_at duration_at if◌then◌else◌
-    gate-is =
+    gate_is =
         let place : at + 1 + 1 ≡ at + 2 = omega arith in
         let after : at + 2 + 1 ≡ at + 3 = omega arith in
         simp (place, lt-leb, lt-ltb, after)
 
-    gated-ends : EndsAt (at + 3) (with_event (s ! at) (gated voice (s ! (at + 1)) (not_zero (at + 2) (duration.Is (s ! (at + 2)) (at + 3)))))
+    gated_ends : EndsAt (at + 3) (with_event (s ! at) (gated voice (s ! (at + 1)) (not_zero (at + 2) (duration.Is (s ! (at + 2)) (at + 3)))))
     unfolding not_zero gated with_event EndsAt
-    gated-ends =
+    gated_ends =
         if_all (λ (d : ReadDuration). EndsAt (at + 3) (with_event (s ! at) (gated voice (s ! (at + 1)) d))) (s ! (at + 2) ≡? 0) _ _ (λ t. tt) (λ t. refl)
 
-    pub short-ends : EndsAt (at + 3) (item_at voice s at)
+    pub short_ends : EndsAt (at + 3) (item_at voice s at)
     unfolding sound_at with_event EndsAt
-    short-ends =
+    short_ends =
         subst (EndsAt (at + 3)) (sym sounds_here)
         (if_all (λ (e : ReadEvent). EndsAt (at + 3) (with_event (s ! at) e)) (is_sound voice (s ! (at + 1))) _ _
-        (λ t. subst (λ (d : ReadDuration). EndsAt (at + 3) (with_event (s ! at) (gated voice (s ! (at + 1)) d))) (sym gate-is) gated-ends)
+        (λ t. subst (λ (d : ReadDuration). EndsAt (at + 3) (with_event (s ! at) (gated voice (s ! (at + 1)) d))) (sym gate_is) gated_ends)
         (λ t. tt))
 
 -- A SHORT ONE, as a test tells it
@@ -88,17 +88,17 @@ short_stands voice s at test =
     let within : at + 3 ≤ length s = leb-true (at + 3) (length s) (and_left _ _ test) in
     let past_room = and_right _ _ test in
     let one : s ! at < 128 = ltb-true (s ! at) 128 (and_left _ _ past_room) in
-    let past-duration = and_right _ _ past_room in
-    let control : s ! (at + 1) ≡ 0x00 → ⊥ = eqb-false (s ! (at + 1)) 0x00 (not-true _ (and_left _ _ past-duration)) in
-    let past-control = and_right _ _ past-duration in
-    let system : s ! (at + 1) ≡ 0xFF → ⊥ = eqb-false (s ! (at + 1)) 0xFF (not-true _ (and_left _ _ past-control)) in
-    let past-system = and_right _ _ past-control in
-    let some : s ! (at + 2) ≡ 0 → ⊥ = eqb-false (s ! (at + 2)) 0 (not-true _ (and_left _ _ past-system)) in
-    let past-zero = and_right _ _ past-system in
-    let gate : s ! (at + 2) < 128 = ltb-true (s ! (at + 2)) 128 (and_left _ _ past-zero) in
-    let sounds : is_sound voice (s ! (at + 1)) ≡ true = and_right _ _ past-zero in
+    let past_duration = and_right _ _ past_room in
+    let control : s ! (at + 1) ≡ 0x00 → ⊥ = eqb-false (s ! (at + 1)) 0x00 (not-true _ (and_left _ _ past_duration)) in
+    let past_control = and_right _ _ past_duration in
+    let system : s ! (at + 1) ≡ 0xFF → ⊥ = eqb-false (s ! (at + 1)) 0xFF (not-true _ (and_left _ _ past_control)) in
+    let past_system = and_right _ _ past_control in
+    let some : s ! (at + 2) ≡ 0 → ⊥ = eqb-false (s ! (at + 2)) 0 (not-true _ (and_left _ _ past_system)) in
+    let past_zero = and_right _ _ past_system in
+    let gate : s ! (at + 2) < 128 = ltb-true (s ! (at + 2)) 128 (and_left _ _ past_zero) in
+    let sounds : is_sound voice (s ! (at + 1)) ≡ true = and_right _ _ past_zero in
     let starts = sounds_here voice s at (omega arith) one control system in
-    let gates = gate-is voice s at (omega arith) one control system (omega arith) gate in
+    let gates = gate_is voice s at (omega arith) one control system (omega arith) gate in
     record { is = starts ∙ simp (sounds, gates, ne_eqb); within = within; one = one }
 
 -- the room for one, as the code tests it

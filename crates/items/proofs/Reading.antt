@@ -18,10 +18,10 @@ use Rattle.model.specs.declared.ReadItem.{ReadItem}
 use Rattle.model.specs.declared.ReadItem.TheVariants.{Timed, EndMark, Refused}
 use Rattle.model.specs.declared.ReadBody.{ReadBody}
 use Rattle.model.specs.declared.ReadBody.TheVariants as body
-use Rattle.model.proofs.Walks.{with_first, Left, left_starts, left-ends, left-stuck, left-next}
+use Rattle.model.proofs.Walks.{with_first, Left, left_starts, left_ends, left_stuck, left_next}
 use Rattle.items.specs.Passing.{is_short}
 use Rattle.items.proofs.Passing.{Short, short_stands}
-use Rattle.items.proofs.Addresses.{stands_ahead, timed-met, timed-nears, mark-met, mark-nears, refused_stuck}
+use Rattle.items.proofs.Addresses.{stands_ahead, timed_met, timed_nears, mark_met, mark_nears, refused_stuck}
 
 abbrev Items : Type 0
 Items = List (Placed (Item Event))
@@ -73,7 +73,7 @@ body_starts voice s h =
 module _ (voice : Voice) (s : List ℕ) (at count lasts : ℕ) (r : Reading voice s at count lasts) where
   pub body_ends_lem : length s ≤ at → body.Whole count lasts ≡ body_answer (body_of voice s)
   body_ends_lem h =
-      sym (onto_nil count lasts) ∙ ap (onto count lasts) (sym (left-ends _ _ _ _ at r.before r.left r.walk h)) ∙ r.same
+      sym (onto_nil count lasts) ∙ ap (onto count lasts) (sym (left_ends _ _ _ _ at r.before r.left r.walk h)) ∙ r.same
 
   -- one item further
   further : (what : Item Event) (next : ℕ) → at < length s → item_step voice s at ≡ met (record { place = at; what = what }) next
@@ -81,7 +81,7 @@ module _ (voice : Voice) (s : List ℕ) (at count lasts : ℕ) (r : Reading voic
   further what next here e short =
       let item : Placed (Item Event) = record { place = at; what = what } in
       let ahead = stands_ahead voice s at item next e in
-      let n = left-next _ _ _ _ at r.before r.left r.walk item next here e ahead refl in
+      let n = left_next _ _ _ _ at r.before r.left r.walk item next here e ahead refl in
       record {
         before = item ∷ r.before;
         left = n.0;
@@ -95,35 +95,35 @@ module _ (voice : Voice) (s : List ℕ) (at count lasts : ℕ) (r : Reading voic
     pub body_refused : (number place : ℕ) → i ≡ Refused number place → body.Refused number place ≡ body_answer (body_of voice s)
     unfolding onto
     body_refused number place e =
-        let stuck-here = refused_stuck voice s at i is number place e in
-        ap (onto count lasts) (sym (left-stuck _ _ _ _ at r.before r.left r.walk number place here stuck-here)) ∙ r.same
+        let stuck_here = refused_stuck voice s at i is number place e in
+        ap (onto count lasts) (sym (left_stuck _ _ _ _ at r.before r.left r.walk number place here stuck_here)) ∙ r.same
 
     pub body_reads : (duration next : ℕ) (event : Event) → i ≡ Timed duration event next → duration < 4294967296
         → Reading voice s next (count + 1) (lasts + duration)
     unfolding duration_of
-    body_reads duration next event e short = further (timed duration event) next here (timed-met voice s at i is duration next event e) short
+    body_reads duration next event e short = further (timed duration event) next here (timed_met voice s at i is duration next event e) short
 
-    pub body-marks : (next : ℕ) → i ≡ EndMark next → Reading voice s next (count + 1) lasts
+    pub body_marks : (next : ℕ) → i ≡ EndMark next → Reading voice s next (count + 1) lasts
     unfolding duration_of
-    body-marks next e =
-        subst (Reading voice s next (count + 1)) (add-zero lasts) (further end_mark next here (mark-met voice s at i is next e) (omega arith))
+    body_marks next e =
+        subst (Reading voice s next (count + 1)) (add-zero lasts) (further end_mark next here (mark_met voice s at i is next e) (omega arith))
 
   -- a short note or wave
   module _ (told : Bool) (here : at < length s) (found : told ≡ true) (so : told ≡ is_short voice s at) where
     short : Short voice s at
     short = short_stands voice s at (sym so ∙ found)
 
-    pub short-within : at + 3 ≤ length s
-    short-within = short.within
+    pub short_within : at + 3 ≤ length s
+    short_within = short.within
 
-    pub short-widens : Fits w64 (s ! at)
-    short-widens = record { fits = omega (arith, short.one) }
+    pub short_widens : Fits w64 (s ! at)
+    short_widens = record { fits = omega (arith, short.one) }
 
-    pub short-adds : length s ≤ 65536 → Fits w64 (lasts + s ! at)
-    short-adds few = record { fits = omega (arith, short.one, r.small) }
+    pub short_adds : length s ≤ 65536 → Fits w64 (lasts + s ! at)
+    short_adds few = record { fits = omega (arith, short.one, r.small) }
 
-    pub body-shorts : Reading voice s (at + 3) (count + 1) (lasts + s ! at)
-    body-shorts = body_reads (item_at voice s at) here refl (s ! at) (at + 3) _ short.is (omega (arith, short.one))
+    pub body_shorts : Reading voice s (at + 3) (count + 1) (lasts + s ! at)
+    body_shorts = body_reads (item_at voice s at) here refl (s ! at) (at + 3) _ short.is (omega (arith, short.one))
 
 pub ruleset reading =
-    (body_empty, body_starts, body_ends_lem, body_refused, timed-nears, body_reads, mark-nears, body-marks, short-within, short-widens, short-adds, body-shorts)
+    (body_empty, body_starts, body_ends_lem, body_refused, timed_nears, body_reads, mark_nears, body_marks, short_within, short_widens, short_adds, body_shorts)

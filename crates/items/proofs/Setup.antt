@@ -13,7 +13,7 @@ use Rattle.model.specs.declared.ReadEvent.{ReadEvent}
 use Rattle.model.specs.declared.ReadEvent.TheVariants as event
 use Rattle.model.specs.declared.Check.TheVariants as check
 use Rattle.model.proofs.Answers.{answer_first}
-use Rattle.model.proofs.Walks.{GoesOn, Left, left_starts, left-ends, left-stuck, left-next}
+use Rattle.model.proofs.Walks.{GoesOn, Left, left_starts, left_ends, left_stuck, left_next}
 use Rattle.items.proofs.Ahead.{message_goes}
 
 pub record SettingUp (s : List ℕ) (at : ℕ) : Type 0 where
@@ -39,30 +39,30 @@ setup_starts s h =
 module _ (s : List ℕ) (at : ℕ) (r : SettingUp s at) where
   pub setup_ends : length s ≤ at → check.Passed ≡ check_answer (setup_of s)
   unfolding check_answer
-  setup_ends h = ap check_answer (sym (left-ends _ _ _ _ at r.before r.left r.walk h)) ∙ r.same
+  setup_ends h = ap check_answer (sym (left_ends _ _ _ _ at r.before r.left r.walk h)) ∙ r.same
 
   module _ (i : ReadEvent) (here : at < length s) (is : i ≡ setup_message_at s at) where
     stands : (j : ReadEvent) → i ≡ j → setup_step s at ≡ message_met at j
     unfolding setup_step
     stands j e = ap (message_met at) (sym is ∙ e)
 
-    pub setup-refused : (number place : ℕ) → i ≡ event.Refused number place → check.Refused 10 at ≡ check_answer (setup_of s)
+    pub setup_refused : (number place : ℕ) → i ≡ event.Refused number place → check.Refused 10 at ≡ check_answer (setup_of s)
     unfolding message_met check_answer
-    setup-refused number place e =
-        ap check_answer (sym (left-stuck _ _ _ _ at r.before r.left r.walk 10 at here (stands (event.Refused number place) e))) ∙ r.same
+    setup_refused number place e =
+        ap check_answer (sym (left_stuck _ _ _ _ at r.before r.left r.walk 10 at here (stands (event.Refused number place) e))) ∙ r.same
 
     ahead : (next : ℕ) (message : Event) → i ≡ event.Is message next → (at < next) × (next ≤ length s)
     unfolding message_met
     ahead next message e = subst (GoesOn (length s) at) (stands (event.Is message next) e) (message_goes s at)
 
-    pub setup-nears : (next : ℕ) (message : Event) → i ≡ event.Is message next → length s - next < length s - at
-    setup-nears next message e = let a = ahead next message e in omega arith
+    pub setup_nears : (next : ℕ) (message : Event) → i ≡ event.Is message next → length s - next < length s - at
+    setup_nears next message e = let a = ahead next message e in omega arith
 
-    pub setup-reads : (next : ℕ) (message : Event) → i ≡ event.Is message next → SettingUp s next
+    pub setup_reads : (next : ℕ) (message : Event) → i ≡ event.Is message next → SettingUp s next
     unfolding message_met
-    setup-reads next message e =
+    setup_reads next message e =
         let a = ahead next message e in
-        let n = left-next _ _ _ _ at r.before r.left r.walk message next here (stands (event.Is message next) e) (omega arith) refl in
+        let n = left_next _ _ _ _ at r.before r.left r.walk message next here (stands (event.Is message next) e) (omega arith) refl in
         record {
           before = message ∷ r.before;
           left = n.0;
@@ -77,6 +77,6 @@ two_short s at h g = le-leb (length s) (at + 1) (omega arith)
 pub two_there : (s : List ℕ) (at : ℕ) → 2 ≤ length s - at → (length s ≤? at + 1) ≡ false
 two_there s at h = lt-leb (length s) (at + 1) (omega arith)
 
-pub ruleset setting_up = (setup_empty, setup_starts, setup_ends, setup-refused, setup-nears, setup-reads)
+pub ruleset setting_up = (setup_empty, setup_starts, setup_ends, setup_refused, setup_nears, setup_reads)
 
 pub ruleset twos = (two_short, two_there)

@@ -24,7 +24,7 @@ use Rattle.model.proofs.Outcomes.{fine_some}
 use Rattle.model.proofs.Tests.{if_false}
 use Rattle.model.proofs.Walks.{Stand}
 use Rattle.chunks.proofs.Lists.{ChunkAhead, chunk_ahead}
-use Rattle.chunks.proofs.Searches.{none_left, never-cut, first-left}
+use Rattle.chunks.proofs.Searches.{none_left, never_cut, first_left}
 use Rattle.reading.specs.Stages.{placed, tops_of}
 use Rattle.reading.proofs.TrackMade.{track_made}
 use Rattle.reading.proofs.Accepted.{contents_made, each_fine, each_none, OpenedAs, opened_as, fixed_inside}
@@ -83,9 +83,9 @@ module _ (s : List ℕ) (end k at : ℕ) (w : Nearing s end k at) where
   Meets top.Cut = ⊥
 
   module _ (here : at < end) where
-    met-chunk : top_met s at ≡ chunk_top s at (read_chunk s end at)
+    met_chunk : top_met s at ≡ chunk_top s at (read_chunk s end at)
     unfolding top_met
-    met-chunk =
+    met_chunk =
         if_false _ _ _ (le-ltb 65536 (length s) w.small)
         ∙ if_false _ _ _ (le-ltb (length s) 10 w.long)
         ∙ if_false _ _ _ (lt-leb (length s - 2) at (omega (arith, w.last)))
@@ -95,11 +95,11 @@ module _ (s : List ℕ) (end k at : ℕ) (w : Nearing s end k at) where
       ahead : ChunkAhead s end at (chunk.Is id size next)
       ahead = subst (ChunkAhead s end at) is (chunk_ahead s end at w.within)
 
-      meets-top : (one : Top) (rest : List Chunk) (tops : List Top) → Stand end (chunk_step s end) next rest → each (top_of s) rest ≡ fine tops
+      meets_top : (one : Top) (rest : List Chunk) (tops : List Top) → Stand end (chunk_step s end) next rest → each (top_of s) rest ≡ fine tops
           → OpenedAs s (placed s at size) one → first_of k (one ∷ tops) ≡ first_of 1 (tops_of (contents_of s))
           → Meets (voiced_top s at size next (voice_of s (placed s at size)))
       unfolding first_of voiced_top
-      meets-top (leaf found) rest tops stand opens opened same =
+      meets_top (leaf found) rest tops stand opens opened same =
           let a = ahead in
           subst (λ v. Meets (voiced_top s at size next v)) (sym opened.1) (
             record {
@@ -116,48 +116,48 @@ module _ (s : List ℕ) (end k at : ℕ) (w : Nearing s end k at) where
             },
             omega arith,
           )
-      meets-top (readable found track) rest tops stand opens opened same =
+      meets_top (readable found track) rest tops stand opens opened same =
           let voice = opened.1 in
           let made = track_made s voice (placed s at size) track opened.3 in
           let room = fixed_inside s voice (placed s at size) track opened.3 in
           subst (λ v. Meets (voiced_top s at size next v)) (sym opened.2)
           (subst Meets (sym (if_false _ _ _ (le-ltb size 6 room))) (ap (λ (code : ℕ). At k (milliseconds code)) (sym made.based) ∙ same))
 
-      meets-chunk : Meets (voiced_top s at size next (voice_of s (placed s at size)))
-      meets-chunk =
-          let l = first-left s end at w.within (read_chunk s end at) refl w.rest id size next here w.stand is in
+      meets_chunk : Meets (voiced_top s at size next (voice_of s (placed s at size)))
+      meets_chunk =
+          let l = first_left s end at w.within (read_chunk s end at) refl w.rest id size next here w.stand is in
           let o = each_fine (top_of s) (record { id = id; place = at; size = size }) l.0 w.tops
           (subst (λ (chunks : List Chunk). each (top_of s) chunks ≡ fine w.tops) l.1 w.opens) in
-          meets-top o.0 l.0 o.1 l.2 o.3
+          meets_top o.0 l.0 o.1 l.2 o.3
           (opened_as s (placed s at size) o.0 (ap (λ (n : ℕ). top_of s (record { id = n; place = at; size = size })) (sym ahead.0) ∙ o.2))
           (ap (first_of k) (sym o.4) ∙ w.same)
 
     meets : Meets (top_met s at)
     unfolding chunk_top
-    meets = subst Meets (sym met-chunk) (go (read_chunk s end at) refl)
+    meets = subst Meets (sym met_chunk) (go (read_chunk s end at) refl)
       where
         go : (c : ReadChunk) → read_chunk s end at ≡ c → Meets (chunk_top s at c)
-        go (chunk.Is id size next) is = meets-chunk id size next is
-        go chunk.Cut is = absurd (never-cut s end at w.within (read_chunk s end at) refl w.rest here w.stand is)
+        go (chunk.Is id size next) is = meets_chunk id size next is
+        go chunk.Cut is = absurd (never_cut s end at w.within (read_chunk s end at) refl w.rest here w.stand is)
 
     module _ (r : ReadTop) (is : r ≡ top_met s at) where
-      pub near-track : (ms : ℕ) → r ≡ top.Track ms → At k ms ≡ first_of 1 (tops_of (contents_of s))
-      near-track ms e = subst Meets (sym is ∙ e) meets
+      pub near_track : (ms : ℕ) → r ≡ top.Track ms → At k ms ≡ first_of 1 (tops_of (contents_of s))
+      near_track ms e = subst Meets (sym is ∙ e) meets
 
-      pub near-cut : r ≡ top.Cut → Nowhere ≡ first_of 1 (tops_of (contents_of s))
-      near-cut e = absurd (subst Meets (sym is ∙ e) meets)
+      pub near_cut : r ≡ top.Cut → Nowhere ≡ first_of 1 (tops_of (contents_of s))
+      near_cut e = absurd (subst Meets (sym is ∙ e) meets)
 
       module _ (next : ℕ) (e : r ≡ top.Leaf next) where
-        leaf-met : Nearing s end (k + 1) next × (end - next < end - at)
-        leaf-met = subst Meets (sym is ∙ e) meets
+        leaf_met : Nearing s end (k + 1) next × (end - next < end - at)
+        leaf_met = subst Meets (sym is ∙ e) meets
 
         pub near_next : Nearing s end (k + 1) next
-        near_next = leaf-met.0
+        near_next = leaf_met.0
 
-        pub near-nears : end - next < end - at
-        near-nears = leaf-met.1
+        pub near_nears : end - next < end - at
+        near_nears = leaf_met.1
 
     pub near_fits : Fits w64 (k + 1)
     near_fits = record { fits = omega (arith, w.few, w.within, w.last, w.small) }
 
-pub ruleset nearing = (near_long, near_starts, near_ends, near-track, near-cut, near_next, near-nears, near_fits)
+pub ruleset nearing = (near_long, near_starts, near_ends, near_track, near_cut, near_next, near_nears, near_fits)

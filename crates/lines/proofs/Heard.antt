@@ -22,7 +22,7 @@ use Rattle.model.specs.declared.PlayAnswer.TheVariants as play
 use Rattle.model.proofs.Outcomes.{then_fine, bind_fine}
 use Rattle.inverse.proofs.WordBack.{word_back}
 use Rattle.items.proofs.Standing.{body_stands}
-use Rattle.sections.proofs.Small.{lasting-short}
+use Rattle.sections.proofs.Small.{lasting_short}
 use Rattle.sections.proofs.Throughout.{OfMessages, of_tune, body_in_word}
 use Rattle.sections.proofs.Lengths.{tune_short}
 use Rattle.model.proofs.Outcomes.{not_refused}
@@ -70,11 +70,11 @@ module _ (buffer : List ℕ) (n row room : ℕ) (tune : Tune Event) (e : play_of
     readable : Readable made.track
     readable = named_reads buffer n row made.file made.track bytes made.reads made.names
 
-    pub early-end : tune.end ≤ 70914205024256
-    early-end =
+    pub early_end : tune.end ≤ 70914205024256
+    early_end =
         let track = made.track in
         let stands = body_stands track.voice track.body track.items readable.reads in
-        let short = lasting-short track.voice track.body readable.bytes readable.small 0 track.items stands in
+        let short = lasting_short track.voice track.body readable.bytes readable.small 0 track.items stands in
         let small = readable.small in
         subst (λ (t : Tune Event). t.end ≤ 70914205024256) (sym made.is)
         (tune_short track made.sections made.orders (omega arith) readable.few)
@@ -116,17 +116,17 @@ module _ (input : List ℕ) (row base : ℕ) (steps₀ words₀ : List ℕ) wher
 
   module _ (a : PlayAnswer) (is : a ≡ play_answer (play_of input (length input) row (min (length steps₀) (length words₀)))) where
     module _ (number place : ℕ) (e : a ≡ play.Refused number place) where
-      listed-refused : listing_text (refused number place) ≡ listing_text (play_listed base outcome)
+      listed_refused : listing_text (refused number place) ≡ listing_text (play_listed base outcome)
       unfolding play_listed
-      listed-refused = ap (λ (o : Checked (Tune Event)). listing_text (play_listed base o)) (sym (answer_refused outcome number place (sym is ∙ e)))
+      listed_refused = ap (λ (o : Checked (Tune Event)). listing_text (play_listed base o)) (sym (answer_refused outcome number place (sym is ∙ e)))
 
-      pub refused-next : (r : ℕ) → r ≡ length (listing_text (refused number place))
+      pub refused_next : (r : ℕ) → r ≡ length (listing_text (refused number place))
           → r ≡ length (listing_text (play_listed base (play_of input (length input) row (min (length steps₀) (length words₀)))))
-      refused-next r h = h ∙ ap length listed-refused
+      refused_next r h = h ∙ ap length listed_refused
 
-      pub refused-written : (l m : List ℕ) → m ≡ sets l 0 (listing_text (refused number place))
+      pub refused_written : (l m : List ℕ) → m ≡ sets l 0 (listing_text (refused number place))
           → m ≡ sets l 0 (listing_text (play_listed base (play_of input (length input) row (min (length steps₀) (length words₀)))))
-      refused-written l m h = h ∙ ap (sets l 0) listed-refused
+      refused_written l m h = h ∙ ap (sets l 0) listed_refused
 
     module _ (count end : ℕ) (e : a ≡ play.Rows count end) where
       told : (tune : Tune Event) × (outcome ≡ fine tune) × (count ≡ length tune.messages) × (end ≡ tune.end)
@@ -135,64 +135,64 @@ module _ (input : List ℕ) (row base : ℕ) (steps₀ words₀ : List ℕ) wher
       few : count ≤ min (length steps₀) (length words₀)
       few = let t = told in omega (arith, t.2, few_rows input (length input) row _ t.0 t.1)
 
-      pub played-room : (most : ℕ) → length steps₀ ≤ 4096 → 500000 ≤ most → 73 + 118 * count ≤ most
-      played-room most h k = omega (arith, few)
+      pub played_room : (most : ℕ) → length steps₀ ≤ 4096 → 500000 ≤ most → 73 + 118 * count ≤ most
+      played_room most h k = omega (arith, few)
 
-      pub played-short : (r : ℕ) → length steps₀ ≤ 4096 → r ≤ 73 + 118 * count → r ≤ 500000
-      played-short r h k = omega (arith, few)
+      pub played_short : (r : ℕ) → length steps₀ ≤ 4096 → r ≤ 73 + 118 * count → r ≤ 500000
+      played_short r h k = omega (arith, few)
 
       module _ (steps words : List ℕ) (s : steps ≡ steps_table steps₀ (play_of input (length input) row (min (length steps₀) (length words₀))))
           (w : words ≡ words_table words₀ (play_of input (length input) row (min (length steps₀) (length words₀)))) where
-        steps-are : steps ≡ written_over steps₀ (map (λ at. at.step) told.0.messages)
+        steps_are : steps ≡ written_over steps₀ (map (λ at. at.step) told.0.messages)
         unfolding steps_table memory_after
-        steps-are = s ∙ ap (steps_table steps₀) told.1
+        steps_are = s ∙ ap (steps_table steps₀) told.1
 
         words_are : words ≡ written_over words₀ (map (λ at. word_of at.event) told.0.messages)
         unfolding words_table memory_after
         words_are = w ∙ ap (words_table words₀) told.1
 
-        pub played-steps : count ≤ length steps
+        pub played_steps : count ≤ length steps
         unfolding written_over
-        played-steps =
+        played_steps =
             let front = map (λ at. at.step) told.0.messages in
-            omega (arith, told.2, ap length steps-are, length-append front (drop (length front) steps₀), length-map told.0.messages (λ at. at.step))
+            omega (arith, told.2, ap length steps_are, length-append front (drop (length front) steps₀), length-map told.0.messages (λ at. at.step))
 
-        pub played-words : count ≤ length words
+        pub played_words : count ≤ length words
         unfolding written_over
-        played-words =
+        played_words =
             let front = map (λ at. word_of at.event) told.0.messages in
             omega (arith, told.2, ap length words_are, length-append front (drop (length front) words₀), length-map told.0.messages (λ at. word_of at.event))
 
         module _ (bytes : (k : ℕ) → input ! k < 256) where
-          pub played-end : end ≤ 368934881474191032
-          played-end = let t = told in omega (arith, t.3, early-end input (length input) row _ t.0 t.1 bytes)
+          pub played_end : end ≤ 368934881474191032
+          played_end = let t = told in omega (arith, t.3, early_end input (length input) row _ t.0 t.1 bytes)
 
-          pub played-early : Early count steps
+          pub played_early : Early count steps
           unfolding written_over
-          played-early i h =
+          played_early i h =
               let t = told in
               let rises = steps_rise input (length input) row _ t.0 t.1 in
-              let last = early-end input (length input) row _ t.0 t.1 bytes in
+              let last = early_end input (length input) row _ t.0 t.1 bytes in
               let step = steps_early 0 t.0.end t.0.messages (drop (length (map (λ at. at.step) t.0.messages)) steps₀) rises i (omega (arith, t.2)) in
-              omega (arith, ap (λ (l : List ℕ). l ! i) steps-are)
+              omega (arith, ap (λ (l : List ℕ). l ! i) steps_are)
 
-          played-text : tune_text base count steps words end ≡ listing_text (play_listed base outcome)
+          played_text : tune_text base count steps words end ≡ listing_text (play_listed base outcome)
           unfolding play_listed
-          played-text =
+          played_text =
               let t = told in
               ap₂ (λ (n last : ℕ). tune_text base n steps words last) t.2 t.3
-              ∙ ap₂ (λ (x y : List ℕ). tune_text base (length t.0.messages) x y t.0.end) steps-are words_are
+              ∙ ap₂ (λ (x y : List ℕ). tune_text base (length t.0.messages) x y t.0.end) steps_are words_are
               ∙ rows_listed t.0 (in_words input (length input) row _ t.0 t.1 bytes) base steps₀ words₀
               ∙ ap (λ (o : Checked (Tune Event)). listing_text (play_listed base o)) (sym t.1)
 
-          pub played-next : (r : ℕ) → r ≡ length (tune_text base count steps words end)
+          pub played_next : (r : ℕ) → r ≡ length (tune_text base count steps words end)
               → r ≡ length (listing_text (play_listed base (play_of input (length input) row (min (length steps₀) (length words₀)))))
-          played-next r h = h ∙ ap length played-text
+          played_next r h = h ∙ ap length played_text
 
-          pub played-written : (l m : List ℕ) → m ≡ sets l 0 (tune_text base count steps words end)
+          pub played_written : (l m : List ℕ) → m ≡ sets l 0 (tune_text base count steps words end)
               → m ≡ sets l 0 (listing_text (play_listed base (play_of input (length input) row (min (length steps₀) (length words₀)))))
-          played-written l m h = h ∙ ap (sets l 0) played-text
+          played_written l m h = h ∙ ap (sets l 0) played_text
 
-pub ruleset unheard = (refused-next, refused-written)
+pub ruleset unheard = (refused_next, refused_written)
 
-pub ruleset heard = (played-room, played-short, played-steps, played-words, played-end, played-early, played-next, played-written)
+pub ruleset heard = (played_room, played_short, played_steps, played_words, played_end, played_early, played_next, played_written)

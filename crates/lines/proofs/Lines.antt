@@ -6,7 +6,7 @@ use lib.ListN.{length, get_or, set}
 use lib.Seq.{sets}
 use borrow.Author.Tests.{eq-eqb, ne_eqb}
 use Rattle.model.specs.Words.{if◌then◌else◌}
-use Rattle.model.specs.Listing.{Line, shiftsAfter, long_kind_of, long_value_of, line_of}
+use Rattle.model.specs.Listing.{Line, shifts_after, long_kind_of, long_value_of, line_of}
 use Rattle.model.specs.ListingText.{fields, line_text}
 use Rattle.model.specs.declared.Event.{Event}
 use Rattle.model.specs.declared.Event.TheVariants.{Nop, Note, Wave, Control, Exclusive}
@@ -45,31 +45,31 @@ pub ruleset printed = (note_line_lem, wave_line, control_line, exclusive_line, n
 -- THE SHIFTS after each event
 module _ (shifts : List ℕ) (event : Event) where
   module _ (kind channel value : ℕ) (e : event ≡ Control kind channel value) where
-    pub shift-set : (later : List ℕ) → kind ≡ 5 → later ≡ set shifts channel value → later ≡ shiftsAfter shifts event
-    unfolding shiftsAfter if◌then◌else◌
-    shift-set later five h = h ∙ sym (ap (shiftsAfter shifts) e ∙ simp eq-eqb)
+    pub shift_set : (later : List ℕ) → kind ≡ 5 → later ≡ set shifts channel value → later ≡ shifts_after shifts event
+    unfolding shifts_after if◌then◌else◌
+    shift_set later five h = h ∙ sym (ap (shifts_after shifts) e ∙ simp eq-eqb)
 
-    pub shift_kept : (kind ≡ 5 → ⊥) → shifts ≡ shiftsAfter shifts event
-    unfolding shiftsAfter if◌then◌else◌
-    shift_kept other = sym (ap (shiftsAfter shifts) e ∙ simp ne_eqb)
+    pub shift_kept : (kind ≡ 5 → ⊥) → shifts ≡ shifts_after shifts event
+    unfolding shifts_after if◌then◌else◌
+    shift_kept other = sym (ap (shifts_after shifts) e ∙ simp ne_eqb)
 
-  pub nop-kept : event ≡ Nop → shifts ≡ shiftsAfter shifts event
-  unfolding shiftsAfter
-  nop-kept e = sym (ap (shiftsAfter shifts) e)
+  pub nop_kept : event ≡ Nop → shifts ≡ shifts_after shifts event
+  unfolding shifts_after
+  nop_kept e = sym (ap (shifts_after shifts) e)
 
-  pub note-kept : (channel key gate : ℕ) → event ≡ Note channel key gate → shifts ≡ shiftsAfter shifts event
-  unfolding shiftsAfter
-  note-kept channel key gate e = sym (ap (shiftsAfter shifts) e)
+  pub note_kept : (channel key gate : ℕ) → event ≡ Note channel key gate → shifts ≡ shifts_after shifts event
+  unfolding shifts_after
+  note_kept channel key gate e = sym (ap (shifts_after shifts) e)
 
-  pub wave-kept : (channel number gate : ℕ) → event ≡ Wave channel number gate → shifts ≡ shiftsAfter shifts event
-  unfolding shiftsAfter
-  wave-kept channel number gate e = sym (ap (shiftsAfter shifts) e)
+  pub wave_kept : (channel number gate : ℕ) → event ≡ Wave channel number gate → shifts ≡ shifts_after shifts event
+  unfolding shifts_after
+  wave_kept channel number gate e = sym (ap (shifts_after shifts) e)
 
-  pub exclusive-kept : (place size : ℕ) → event ≡ Exclusive place size → shifts ≡ shiftsAfter shifts event
-  unfolding shiftsAfter
-  exclusive-kept place size e = sym (ap (shiftsAfter shifts) e)
+  pub exclusive_kept : (place size : ℕ) → event ≡ Exclusive place size → shifts ≡ shifts_after shifts event
+  unfolding shifts_after
+  exclusive_kept place size e = sym (ap (shifts_after shifts) e)
 
-pub ruleset shifting = (shift-set, shift_kept, nop-kept, note-kept, wave-kept, exclusive-kept)
+pub ruleset shifting = (shift_set, shift_kept, nop_kept, note_kept, wave_kept, exclusive_kept)
 
 -- A LINE IN PARTS
 module _ (line : Printed) where
@@ -81,16 +81,16 @@ module _ (line : Printed) where
   line_parts = sym (simp append_assoc)
 
   module _ (at source value : ℕ) (p : source ≡ at + length (times_text line.step line.ms)) (q : value ≡ source + length (source_text line)) where
-    pub line-next : (r : ℕ) → r ≡ value + length (value_text line) → r ≡ at + length (line_text (said line))
-    line-next r e =
+    pub line_next : (r : ℕ) → r ≡ value + length (value_text line) → r ≡ at + length (line_text (said line))
+    line_next r e =
         joined_next (times ++ source_text line) (value_text line) at value (joined_next times (source_text line) at source p value q) r e
         ∙ ap (λ (text : List ℕ). at + length text) line_parts
 
-    pub line-written : (l one two last : List ℕ) → one ≡ sets l at (times_text line.step line.ms) → two ≡ sets one source (source_text line)
+    pub line_written : (l one two last : List ℕ) → one ≡ sets l at (times_text line.step line.ms) → two ≡ sets one source (source_text line)
         → last ≡ sets two value (value_text line) → last ≡ sets l at (line_text (said line))
-    line-written l one two last e f g =
+    line_written l one two last e f g =
         joined_written (times ++ source_text line) (value_text line) at value (joined_next times (source_text line) at source p value q) l two last
         (joined_written times (source_text line) at source p l one two e f) g
         ∙ ap (sets l at) line_parts
 
-pub ruleset line_Joins = (line-next, line-written)
+pub ruleset line_Joins = (line_next, line_written)

@@ -102,45 +102,45 @@ module _ (input : List ℕ) (room : ℕ) (all : room ≡ 16384) (a : ReadAnswer)
     unfolding listing_of ◌>>=◌
     unread = ap listing_text (sym (rw (answer_refused outcome number place (sym answered ∙ e))))
 
-    pub unread-next : (r : ℕ) → r ≡ length (listing_text (refused number place)) → r ≡ length (listing_text (listing_of input))
-    unread-next r h = h ∙ ap length unread
+    pub unread_next : (r : ℕ) → r ≡ length (listing_text (refused number place)) → r ≡ length (listing_text (listing_of input))
+    unread_next r h = h ∙ ap length unread
 
-    pub unread-written : (l m : List ℕ) → m ≡ sets l 0 (listing_text (refused number place)) → m ≡ sets l 0 (listing_text (listing_of input))
-    unread-written l m h = h ∙ ap (sets l 0) unread
+    pub unread_written : (l m : List ℕ) → m ≡ sets l 0 (listing_text (refused number place)) → m ≡ sets l 0 (listing_text (listing_of input))
+    unread_written l m h = h ∙ ap (sets l 0) unread
 
   module _ (count code : ℕ) (matches : Bool) (e : a ≡ read.Rows count code matches) where
-    file-read : (file : File) × (outcome ≡ fine file)
-    file-read = answer_read outcome count code matches (sym answered ∙ e)
+    file_read : (file : File) × (outcome ≡ fine file)
+    file_read = answer_read outcome count code matches (sym answered ∙ e)
 
-    stated : file_of input (length input) ≡ fine file-read.0
-    stated = read_file input (length input) 16384 file-read.0 file-read.1
+    stated : file_of input (length input) ≡ fine file_read.0
+    stated = read_file input (length input) 16384 file_read.0 file_read.1
 
     pub read_small : length input ≤ 65536
-    read_small = stated_small input (length input) file-read.0 stated
+    read_small = stated_small input (length input) file_read.0 stated
 
-    contents : contents_of input ≡ fine file-read.0
-    contents = sym (ap contents_of (take-length input)) ∙ (stated_bytes input (length input) file-read.0 stated).1
+    contents : contents_of input ≡ fine file_read.0
+    contents = sym (ap contents_of (take-length input)) ∙ (stated_bytes input (length input) file_read.0 stated).1
 
-    pub read-fine : is_fine (contents_of input) ≡ true
+    pub read_fine : is_fine (contents_of input) ≡ true
     unfolding is_fine
-    read-fine = ap is_fine contents
+    read_fine = ap is_fine contents
 
-    listing-read : listing_text (first_listed input (first_of 1 (tops_of (contents_of input)))) ≡ listing_text (listing_of input)
+    listing_read : listing_text (first_listed input (first_of 1 (tops_of (contents_of input)))) ≡ listing_text (listing_of input)
     unfolding tops_of
-    listing-read =
+    listing_read =
         ap listing_text
-        (ap (λ (c : Checked File). first_listed input (first_of 1 (tops_of c))) contents ∙ file_listed input file-read.0 file-read.1)
+        (ap (λ (c : Checked File). first_listed input (first_of 1 (tops_of c))) contents ∙ file_listed input file_read.0 file_read.1)
 
     pub read_next : (r : ℕ) → r ≡ length (listing_text (first_listed input (first_of 1 (tops_of (contents_of input))))) → r ≡ length (listing_text (listing_of input))
-    read_next r h = h ∙ ap length listing-read
+    read_next r h = h ∙ ap length listing_read
 
-    pub read-written : (l m : List ℕ) → m ≡ sets l 0 (listing_text (first_listed input (first_of 1 (tops_of (contents_of input)))))
+    pub read_written : (l m : List ℕ) → m ≡ sets l 0 (listing_text (first_listed input (first_of 1 (tops_of (contents_of input)))))
         → m ≡ sets l 0 (listing_text (listing_of input))
-    read-written l m h = h ∙ ap (sets l 0) listing-read
+    read_written l m h = h ∙ ap (sets l 0) listing_read
 
-pub ruleset unread_files = (unread-next, unread-written)
+pub ruleset unread_files = (unread_next, unread_written)
 
-pub ruleset read_files = (read_small, read-fine, read_next, read-written)
+pub ruleset read_files = (read_small, read_fine, read_next, read_written)
 
 -- THE FIRST TRACK of a file
 base_low : (k row ms : ℕ) (tops : List Top) → first_of k tops ≡ At row ms → ms ≤ 50
@@ -155,29 +155,29 @@ module _ (input : List ℕ) (tops : List Top) (f : FirstTrack) (is : f ≡ first
     unfolding first_listed
     no_track = ap (λ (first : FirstTrack). listing_text (first_listed input first)) (sym e ∙ is)
 
-    pub nowhere-next : (r : ℕ) → r ≡ length (listing_text (refused 16 0)) → r ≡ length (listing_text (first_listed input (first_of 1 tops)))
-    nowhere-next r h = h ∙ ap length no_track
+    pub nowhere_next : (r : ℕ) → r ≡ length (listing_text (refused 16 0)) → r ≡ length (listing_text (first_listed input (first_of 1 tops)))
+    nowhere_next r h = h ∙ ap length no_track
 
-    pub nowhere-written : (l m : List ℕ) → m ≡ sets l 0 (listing_text (refused 16 0)) → m ≡ sets l 0 (listing_text (first_listed input (first_of 1 tops)))
-    nowhere-written l m h = h ∙ ap (sets l 0) no_track
+    pub nowhere_written : (l m : List ℕ) → m ≡ sets l 0 (listing_text (refused 16 0)) → m ≡ sets l 0 (listing_text (first_listed input (first_of 1 tops)))
+    nowhere_written l m h = h ∙ ap (sets l 0) no_track
 
   module _ (row base : ℕ) (e : f ≡ At row base) where
-    pub track-base : base ≤ 50
-    track-base = base_low 1 row base tops (sym is ∙ e)
+    pub track_base : base ≤ 50
+    track_base = base_low 1 row base tops (sym is ∙ e)
 
     a_track : listing_text (play_listed base (play_of input (length input) row 4096)) ≡ listing_text (first_listed input (first_of 1 tops))
     unfolding first_listed
     a_track = ap (λ (first : FirstTrack). listing_text (first_listed input first)) (sym e ∙ is)
 
-    pub track-next : (r : ℕ) → r ≡ length (listing_text (play_listed base (play_of input (length input) row 4096)))
+    pub track_next : (r : ℕ) → r ≡ length (listing_text (play_listed base (play_of input (length input) row 4096)))
         → r ≡ length (listing_text (first_listed input (first_of 1 tops)))
-    track-next r h = h ∙ ap length a_track
+    track_next r h = h ∙ ap length a_track
 
-    pub track-written : (l m : List ℕ) → m ≡ sets l 0 (listing_text (play_listed base (play_of input (length input) row 4096)))
+    pub track_written : (l m : List ℕ) → m ≡ sets l 0 (listing_text (play_listed base (play_of input (length input) row 4096)))
         → m ≡ sets l 0 (listing_text (first_listed input (first_of 1 tops)))
-    track-written l m h = h ∙ ap (sets l 0) a_track
+    track_written l m h = h ∙ ap (sets l 0) a_track
 
-pub ruleset first_tracks = (nowhere-next, nowhere-written, track-base, track-next, track-written)
+pub ruleset first_tracks = (nowhere_next, nowhere_written, track_base, track_next, track_written)
 
 -- THE ROOM
 module _ (input l : List ℕ) where
@@ -190,14 +190,14 @@ module _ (input l : List ℕ) where
   full_memory h = sym (if_true (length l <? 500000) _ _ (lt-ltb (length l) 500000 h))
 
   module _ (room : 500000 ≤ length l) (r : ℕ) (is : r ≡ length (listing_text (listing_of input))) where
-    pub text-answer : Text r ≡ list_answer input (length l)
+    pub text_answer : Text r ≡ list_answer input (length l)
     unfolding list_answer
-    text-answer = ap Text is ∙ sym (if_false (length l <? 500000) _ _ (le-ltb (length l) 500000 room))
+    text_answer = ap Text is ∙ sym (if_false (length l <? 500000) _ _ (le-ltb (length l) 500000 room))
 
-    pub text-memory : (m : List ℕ) → r ≤ 500000 → m ≡ sets l 0 (listing_text (listing_of input)) → m ≡ list_memory input l
+    pub text_memory : (m : List ℕ) → r ≤ 500000 → m ≡ sets l 0 (listing_text (listing_of input)) → m ≡ list_memory input l
     unfolding list_memory
-    text-memory m short h =
+    text_memory m short h =
         h ∙ written_front l (listing_text (listing_of input)) (omega arith)
         ∙ sym (if_false (length l <? 500000) _ _ (le-ltb (length l) 500000 room))
 
-pub ruleset rooms = (full_answer, full_memory, text-answer, text-memory)
+pub ruleset rooms = (full_answer, full_memory, text_answer, text_memory)

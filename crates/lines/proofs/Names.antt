@@ -32,21 +32,21 @@ module _ (voiced : Bool) (channel at r : ℕ) (l m : List ℕ) where
     unfolding channel_said channel_name if◌then◌else◌
     channel_voiced = rw is
 
-    pub voiced-next : r ≡ at + length (closed (decimal channel) space) → r ≡ at + length (closed (channel_name (channel_said voiced channel)) space)
-    voiced-next e = e ∙ ap (λ (field : List ℕ). at + length (closed field space)) (sym channel_voiced)
+    pub voiced_next : r ≡ at + length (closed (decimal channel) space) → r ≡ at + length (closed (channel_name (channel_said voiced channel)) space)
+    voiced_next e = e ∙ ap (λ (field : List ℕ). at + length (closed field space)) (sym channel_voiced)
 
-    pub voiced-written : m ≡ sets l at (closed (decimal channel) space) → m ≡ sets l at (closed (channel_name (channel_said voiced channel)) space)
-    voiced-written e = e ∙ ap (λ (field : List ℕ). sets l at (closed field space)) (sym channel_voiced)
+    pub voiced_written : m ≡ sets l at (closed (decimal channel) space) → m ≡ sets l at (closed (channel_name (channel_said voiced channel)) space)
+    voiced_written e = e ∙ ap (λ (field : List ℕ). sets l at (closed field space)) (sym channel_voiced)
 
   module _ (is : voiced ≡ false) where
     channel_unvoiced : closed (channel_name (channel_said voiced channel)) space ≡ 0x2D ∷ 0x20 ∷ []
     unfolding closed channel_said channel_name bytes if◌then◌else◌
     channel_unvoiced = rw is
 
-    pub unvoiced-next : r ≡ at + 2 → r ≡ at + length (closed (channel_name (channel_said voiced channel)) space)
-    unvoiced-next e = e ∙ ap (λ (field : List ℕ). at + length field) (sym channel_unvoiced)
+    pub unvoiced_next : r ≡ at + 2 → r ≡ at + length (closed (channel_name (channel_said voiced channel)) space)
+    unvoiced_next e = e ∙ ap (λ (field : List ℕ). at + length field) (sym channel_unvoiced)
 
-    pub unvoiced-written : m ≡ sets l at (0x2D ∷ 0x20 ∷ []) → m ≡ sets l at (closed (channel_name (channel_said voiced channel)) space)
-    unvoiced-written e = e ∙ ap (sets l at) (sym channel_unvoiced)
+    pub unvoiced_written : m ≡ sets l at (0x2D ∷ 0x20 ∷ []) → m ≡ sets l at (closed (channel_name (channel_said voiced channel)) space)
+    unvoiced_written e = e ∙ ap (sets l at) (sym channel_unvoiced)
 
-pub ruleset channels = (voiced-next, voiced-written, unvoiced-next, unvoiced-written)
+pub ruleset channels = (voiced_next, voiced_written, unvoiced_next, unvoiced_written)

@@ -26,37 +26,37 @@ module _ (l : List ℕ) (at n : ℕ) (room : at + length (decimal n) ≤ length 
     pub digit_room : at < length l
     digit_room = omega (arith, ap length (one_digit n low))
 
-    pub digit-next : at + 1 ≡ at + length (decimal n)
-    digit-next = omega (arith, ap length (one_digit n low))
+    pub digit_next : at + 1 ≡ at + length (decimal n)
+    digit_next = omega (arith, ap length (one_digit n low))
 
-    pub digit-written : set l at (0x30 + n) ≡ sets l at (decimal n)
-    digit-written = sym (ap (sets l at) (one_digit n low))
+    pub digit_written : set l at (0x30 + n) ≡ sets l at (decimal n)
+    digit_written = sym (ap (sets l at) (one_digit n low))
 
   module _ (far : 10 ≤ n) where
     one_more : length (decimal n) ≡ length (decimal (n / 10)) + 1
     one_more = ap length (more_digits n far) ∙ length-append (decimal (n / 10)) ((0x30 + n % 10) ∷ [])
 
-    pub tenth-room : at + length (decimal (n / 10)) ≤ length l
-    tenth-room = omega (arith, one_more)
+    pub tenth_room : at + length (decimal (n / 10)) ≤ length l
+    tenth_room = omega (arith, one_more)
 
-    pub tenth-less : (t : ℕ) → n ≡ t → n / 10 < t
-    tenth-less t e = omega arith
+    pub tenth_less : (t : ℕ) → n ≡ t → n / 10 < t
+    tenth_less t e = omega arith
 
     module _ (last : ℕ) (is : last ≡ at + length (decimal (n / 10))) where
-      pub last-room : (m : List ℕ) → length m ≡ length l → last < length m
-      last-room m same = omega (arith, one_more)
+      pub last_room : (m : List ℕ) → length m ≡ length l → last < length m
+      last_room m same = omega (arith, one_more)
 
-      pub last-next : last + 1 ≡ at + length (decimal n)
-      last-next = omega (arith, one_more)
+      pub last_next : last + 1 ≡ at + length (decimal n)
+      last_next = omega (arith, one_more)
 
-      pub digits-written : (m : List ℕ) → m ≡ sets l at (decimal (n / 10)) → set m last (0x30 + n % 10) ≡ sets l at (decimal n)
-      digits-written m e =
+      pub digits_written : (m : List ℕ) → m ≡ sets l at (decimal (n / 10)) → set m last (0x30 + n % 10) ≡ sets l at (decimal n)
+      digits_written m e =
           ap (λ (x : List ℕ). set x last (0x30 + n % 10)) e
           ∙ ap (λ (x : ℕ). set (sets l at (decimal (n / 10))) x (0x30 + n % 10)) is
           ∙ sets_append l at (decimal (n / 10)) ((0x30 + n % 10) ∷ [])
           ∙ sym (ap (sets l at) (more_digits n far))
 
-pub ruleset digits = (digit_room, digit-next, digit-written, tenth-room, tenth-less, last-room, last-next, digits-written)
+pub ruleset digits = (digit_room, digit_next, digit_written, tenth_room, tenth_less, last_room, last_next, digits_written)
 
 -- A FIELD and the byte that closes it
 module _ (field : List ℕ) (at close end : ℕ) (is : end ≡ at + length field) where
@@ -100,27 +100,27 @@ module _ (up down : ℕ) where
     unfolding closed
     below_next h e = e ∙ omega (arith, ap (λ (field : List ℕ). length (field ++ (close ∷ []))) (minus_signed h))
 
-    pub above-next : down ≤ up → r ≡ at + length (closed (decimal (up - down)) close) → r ≡ at + length (closed (signed (pos up -ℤ pos down)) close)
-    above-next h e = e ∙ ap (λ (field : List ℕ). at + length (closed field close)) (sym (plus_signed h))
+    pub above_next : down ≤ up → r ≡ at + length (closed (decimal (up - down)) close) → r ≡ at + length (closed (signed (pos up -ℤ pos down)) close)
+    above_next h e = e ∙ ap (λ (field : List ℕ). at + length (closed field close)) (sym (plus_signed h))
 
     module _ (l m : List ℕ) where
-      pub below-written : up < down → m ≡ sets (set l at 0x2D) (at + 1) (closed (decimal (down - up)) close)
+      pub below_written : up < down → m ≡ sets (set l at 0x2D) (at + 1) (closed (decimal (down - up)) close)
           → m ≡ sets l at (closed (signed (pos up -ℤ pos down)) close)
       unfolding closed
-      below-written h e =
+      below_written h e =
           let next : at + 1 ≡ suc at = omega arith in
           e
           ∙ ap (λ (n : ℕ). sets (set l at 0x2D) n (closed (decimal (down - up)) close)) next
           ∙ ap (λ (field : List ℕ). sets l at (closed field close)) (sym (minus_signed h))
 
-      pub above-written : down ≤ up → m ≡ sets l at (closed (decimal (up - down)) close) → m ≡ sets l at (closed (signed (pos up -ℤ pos down)) close)
-      above-written h e = e ∙ ap (λ (field : List ℕ). sets l at (closed field close)) (sym (plus_signed h))
+      pub above_written : down ≤ up → m ≡ sets l at (closed (decimal (up - down)) close) → m ≡ sets l at (closed (signed (pos up -ℤ pos down)) close)
+      above_written h e = e ∙ ap (λ (field : List ℕ). sets l at (closed field close)) (sym (plus_signed h))
 
 -- room behind a sign
 pub sign_room : (l : List ℕ) (at byte : ℕ) → at + 22 ≤ length l → at + 1 + 21 ≤ length (set l at byte)
 sign_room l at byte h = omega (arith, length-set l at byte)
 
-pub ruleset signs = (below_next, above-next, below-written, above-written, sign_room, kept_set)
+pub ruleset signs = (below_next, above_next, below_written, above_written, sign_room, kept_set)
 
 -- TWO PARTS, one after the other
 module _ (one two : List ℕ) (at middle : ℕ) (is : middle ≡ at + length one) where

@@ -34,25 +34,25 @@ pitch_said key shift =
     ∙ ap (λ (up : ℕ). pos up -ℤ pos (33 + 12 * (shift - 0x80))) up))
 
 module _ (step ms channel kind gate up down : ℕ) where
-  abbrev voicedBy : Printed
-  voicedBy = record { step = step; ms = ms; voiced = true; channel = channel; kind = kind; up = up; down = down; gate = gate }
+  abbrev voiced_by : Printed
+  voiced_by = record { step = step; ms = ms; voiced = true; channel = channel; kind = kind; up = up; down = down; gate = gate }
 
-  abbrev unvoicedBy : Printed
-  unvoicedBy = record { step = step; ms = ms; voiced = false; channel = 0; kind = kind; up = up; down = down; gate = 0 }
+  abbrev unvoiced_by : Printed
+  unvoiced_by = record { step = step; ms = ms; voiced = false; channel = 0; kind = kind; up = up; down = down; gate = 0 }
 
 pub note_said : (shift step ms channel key gate up down : ℕ) → up ≡ semitones_up key shift → down ≡ semitones_down shift
-    → said (voicedBy step ms channel 1 gate up down) ≡ note_line shift step ms channel key gate
+    → said (voiced_by step ms channel 1 gate up down) ≡ note_line shift step ms channel key gate
 unfolding said note_line channel_said if◌then◌else◌
 note_said shift step ms channel key gate up down p q =
     ap (λ (value : ℤ). record { step = step; ms = ms; channel = some channel; kind = 1; value = value; gate = gate })
     (ap₂ (λ (x y : ℕ). pos x -ℤ pos y) p q ∙ pitch_said key shift)
 
-pub voiced_said : (step ms channel kind value gate : ℕ) → said (voicedBy step ms channel kind gate value 0) ≡ voiced_line step ms channel kind value gate
+pub voiced_said : (step ms channel kind value gate : ℕ) → said (voiced_by step ms channel kind gate value 0) ≡ voiced_line step ms channel kind value gate
 unfolding said voiced_line channel_said if◌then◌else◌
 voiced_said step ms channel kind value gate =
     ap (λ (number : ℤ). record { step = step; ms = ms; channel = some channel; kind = kind; value = number; gate = gate }) (difference_up value 0 (omega arith) ∙ ap pos (sub-zero value))
 
-pub unvoiced_said : (step ms kind value : ℕ) → said (unvoicedBy step ms 0 kind 0 value 0) ≡ unvoiced_line step ms kind value
+pub unvoiced_said : (step ms kind value : ℕ) → said (unvoiced_by step ms 0 kind 0 value 0) ≡ unvoiced_line step ms kind value
 unfolding said unvoiced_line channel_said if◌then◌else◌
 unvoiced_said step ms kind value =
     ap (λ (number : ℤ). record { step = step; ms = ms; channel = none; kind = kind; value = number; gate = 0 }) (difference_up value 0 (omega arith) ∙ ap pos (sub-zero value))
@@ -61,5 +61,5 @@ unvoiced_said step ms kind value =
 pub no_shift : (shifts : List ℕ) (channel : ℕ) → length shifts ≡ 4 → 4 ≤ channel → 0 ≡ get_or shifts channel 0
 no_shift shifts channel four h = sym (get_or-eq_default shifts 0 (omega arith))
 
-pub none-shifted : (shifts : List ℕ) (channel value : ℕ) → length shifts ≡ 4 → 4 ≤ channel → shifts ≡ set shifts channel value
-none-shifted shifts channel value four h = sym (set_out shifts channel value (omega arith))
+pub none_shifted : (shifts : List ℕ) (channel value : ℕ) → length shifts ≡ 4 → 4 ≤ channel → shifts ≡ set shifts channel value
+none_shifted shifts channel value four h = sym (set_out shifts channel value (omega arith))

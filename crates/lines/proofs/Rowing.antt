@@ -10,7 +10,7 @@ use native.Mathlib.Nat.{mul-le-mul_left, sub-zero}
 use native.Mathlib.Omega.{arith}
 use Rattle.model.specs.Bytes.{◌!◌}
 use Rattle.model.specs.Writing.{event_in}
-use Rattle.model.specs.Listing.{Line, shiftsAfter, line_of, lines_of}
+use Rattle.model.specs.Listing.{Line, shifts_after, line_of, lines_of}
 use Rattle.model.specs.ListingText.{bytes, decimal, fields, line_text, lines_text, listing_text}
 use Rattle.model.specs.Words.{Checked.refused}
 use Rattle.model.specs.declared.Event.{Event}
@@ -30,7 +30,7 @@ text_of base shifts count steps words = lines_text (lines_of base shifts (messag
 
 first_line : (base : ℕ) (shifts : List ℕ) (count step word : ℕ) (steps words : List ℕ)
     → text_of base shifts (suc count) (step ∷ steps) (word ∷ words)
-    ≡ line_text (line_of shifts step (step * base) (event_in word)) ++ text_of base (shiftsAfter shifts (event_in word)) count steps words
+    ≡ line_text (line_of shifts step (step * base) (event_in word)) ++ text_of base (shifts_after shifts (event_in word)) count steps words
 unfolding lines_text lines_of messages_in
 first_line base shifts count step word steps words = refl
 
@@ -62,38 +62,38 @@ module _ (l : List ℕ) (at : ℕ) (steps words : List ℕ) (count base : ℕ) w
     pub rows_room : at + 118 * count ≤ length l → i < count → place + 118 ≤ length out
     rows_room room h = omega (arith, r.near, r.same)
 
-    pub rows-done : count ≤ i → place ≡ at + length (rows_text base count steps words)
-    rows-done past =
+    pub rows_done : count ≤ i → place ≡ at + length (rows_text base count steps words)
+    rows_done past =
         let none_left = no_lines base shifts (count - i) (drop i steps) (drop i words) (omega arith) in
         omega (arith, r.size, ap length none_left)
 
-    pub rows-ended : count ≤ i → place ≤ at + 118 * count
-    rows-ended past = omega (arith, r.near, r.within)
+    pub rows_ended : count ≤ i → place ≤ at + 118 * count
+    rows_ended past = omega (arith, r.near, r.within)
 
     pub rows_written : count ≤ i → out ≡ sets l at (rows_text base count steps words)
     rows_written past =
         let none_left = no_lines base shifts (count - i) (drop i steps) (drop i words) (omega arith) in
         ap (sets out place) (sym none_left) ∙ r.whole
 
-    pub rows-kept : length out ≡ length l
-    rows-kept = r.same
+    pub rows_kept : length out ≡ length l
+    rows_kept = r.same
 
     module _ (h : i < count) where
       pub rows_step : count ≤ length steps → i < length steps
       rows_step few = omega arith
 
-      pub rows-early : Early count steps → steps ! i ≤ 368934881474191032
-      rows-early early = early i h
+      pub rows_early : Early count steps → steps ! i ≤ 368934881474191032
+      rows_early early = early i h
 
-      pub rows-near : count - (i + 1) < count - i
-      rows-near = omega arith
+      pub rows_near : count - (i + 1) < count - i
+      rows_near = omega arith
 
       module _ (few : count ≤ length steps) (many : count ≤ length words) where
         abbrev line : Line
         line = line_of shifts (steps ! i) (steps ! i * base) (event_in (words ! i))
 
         abbrev later : List ℕ
-        later = text_of base (shiftsAfter shifts (event_in (words ! i))) (count - (i + 1)) (drop (i + 1) steps) (drop (i + 1) words)
+        later = text_of base (shifts_after shifts (event_in (words ! i))) (count - (i + 1)) (drop (i + 1) steps) (drop (i + 1) words)
 
         ahead : text_of base shifts (count - i) (drop i steps) (drop i words) ≡ line_text line ++ later
         ahead =
@@ -102,19 +102,19 @@ module _ (l : List ℕ) (at : ℕ) (steps words : List ℕ) (count base : ℕ) w
             ap₂ (λ (n : ℕ) (s : List ℕ). text_of base shifts n s (drop i words)) left (drop-cons steps i 0 (omega arith))
             ∙ ap (λ (w : List ℕ). text_of base shifts (suc (count - (i + 1))) (steps ! i ∷ drop (suc i) steps) w) (drop-cons words i 0 (omega arith))
             ∙ first_line base shifts (count - (i + 1)) (steps ! i) (words ! i) (drop (suc i) steps) (drop (suc i) words)
-            ∙ ap (λ (n : ℕ). line_text line ++ text_of base (shiftsAfter shifts (event_in (words ! i))) (count - (i + 1)) (drop n steps) (drop n words)) next
+            ∙ ap (λ (n : ℕ). line_text line ++ text_of base (shifts_after shifts (event_in (words ! i))) (count - (i + 1)) (drop n steps) (drop n words)) next
 
         module _ (event : Event) (ms : ℕ) (printed : Printed) (is : event ≡ event_in (words ! i)) (times : ms ≡ steps ! i * base)
             (prints : said printed ≡ line_of shifts (steps ! i) ms event) where
-          line-is : said printed ≡ line
-          line-is = prints ∙ ap₂ (λ (n : ℕ) (e : Event). line_of shifts (steps ! i) n e) times is
+          line_is : said printed ≡ line
+          line_is = prints ∙ ap₂ (λ (n : ℕ) (e : Event). line_of shifts (steps ! i) n e) times is
 
           pub rows_next : (m shifts' : List ℕ) (next : ℕ) → next ≡ place + length (line_text (said printed)) → next ≤ place + 118
-              → m ≡ sets out place (line_text (said printed)) → length m ≡ length out → shifts' ≡ shiftsAfter shifts event
+              → m ≡ sets out place (line_text (said printed)) → length m ≡ length out → shifts' ≡ shifts_after shifts event
               → Rowing l at steps words count base m shifts' next (i + 1)
           rows_next m shifts' next after near written kept shifted =
-              let there : next ≡ place + length (line_text line) = after ∙ ap (λ (x : Line). place + length (line_text x)) line-is in
-              let now : shifts' ≡ shiftsAfter shifts (event_in (words ! i)) = shifted ∙ ap (shiftsAfter shifts) is in
+              let there : next ≡ place + length (line_text line) = after ∙ ap (λ (x : Line). place + length (line_text x)) line_is in
+              let now : shifts' ≡ shifts_after shifts (event_in (words ! i)) = shifted ∙ ap (shifts_after shifts) is in
               let both = ap length ahead in
               record {
                 within = omega arith;
@@ -122,11 +122,11 @@ module _ (l : List ℕ) (at : ℕ) (steps words : List ℕ) (count base : ℕ) w
                 near = omega (arith, r.near);
                 size = rw now (omega (arith, r.size, both, length-append (line_text line) later));
                 whole = rw now
-                    (joined_written (line_text line) later place next there out m _ (written ∙ ap (λ (x : Line). sets out place (line_text x)) line-is) refl
+                    (joined_written (line_text line) later place next there out m _ (written ∙ ap (λ (x : Line). sets out place (line_text x)) line_is) refl
                     ∙ ap (sets out place) (sym ahead) ∙ r.whole);
               }
 
-pub ruleset rowing = (rows_start, rows_room, rows-kept, rows_step, rows-early, rows-near, rows_next)
+pub ruleset rowing = (rows_start, rows_room, rows_kept, rows_step, rows_early, rows_near, rows_next)
 
 -- A PAIR on its line
 module _ (word : List ℕ) (first second at middle last : ℕ) (p : middle ≡ at + length word) (q : last ≡ middle + length (closed (decimal first) 0x20)) where

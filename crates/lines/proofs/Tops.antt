@@ -59,17 +59,17 @@ module _ (s : List ℕ) (at size next : ℕ) (found : Checked (Option Voice)) (r
   top_closed e = sym (ap (voiced_top s at size next) (voice_is_closed found (sym is ∙ e)))
 
   module _ (v : Voice) (e : r ≡ voice.Opened v) where
-    pub top-short : size < 6 → Cut ≡ voiced_top s at size next found
+    pub top_short : size < 6 → Cut ≡ voiced_top s at size next found
     unfolding voiced_top
-    top-short h =
+    top_short h =
         sym (ap (voiced_top s at size next) (voice_is_opened found v (sym is ∙ e)) ∙ if_true _ _ _ (lt-ltb size 6 h))
 
-    pub top-track : (ms : ℕ) → 6 ≤ size → ms ≡ milliseconds (s ! (at + 8 + place_of_d v)) → Track ms ≡ voiced_top s at size next found
+    pub top_track : (ms : ℕ) → 6 ≤ size → ms ≡ milliseconds (s ! (at + 8 + place_of_d v)) → Track ms ≡ voiced_top s at size next found
     unfolding voiced_top
-    top-track ms h m =
+    top_track ms h m =
         ap Track m ∙ sym (ap (voiced_top s at size next) (voice_is_opened found v (sym is ∙ e)) ∙ if_false _ _ _ (le-ltb size 6 h))
 
-pub ruleset voiced_tops = (top_refused, top_closed, top-short, top-track)
+pub ruleset voiced_tops = (top_refused, top_closed, top_short, top_track)
 
 -- a chunk by its header
 module _ (s : List ℕ) (end at : ℕ) (r : ReadChunk) (is : r ≡ read_chunk s end at) where

@@ -1,7 +1,7 @@
 // One line: what a message prints, under the shifts that are in force, and its text.
 ghost use Rattle.std.specs.Prelude.{◌≡◌, ◌+◌, ◌≤◌, length, get_or, set};
 ghost use Rattle.std.proofs.lemmas.List.Edits.{sets};
-ghost use Rattle.model.specs.Listing.{shiftsAfter, long_kind_of, long_value_of, line_of};
+ghost use Rattle.model.specs.Listing.{shifts_after, long_kind_of, long_value_of, line_of};
 ghost use Rattle.model.specs.ListingText.{channel_name, space, line_text};
 ghost use Rattle.lines.specs.Fields.{closed, channel_said, said, octaves_up, semitones_up, semitones_down, note_line, voiced_line, unvoiced_line, times_text, source_text, value_text};
 
@@ -46,7 +46,7 @@ fn shifted(shifts: [u8; 4], channel: u8, value: u8) -> [u8; 4]
 
 // The shifts in force after a message.
 pub fn shifts_after(shifts: [u8; 4], event: Event) -> [u8; 4]
-    ensures { result ≡ shiftsAfter shifts event }
+    ensures { result ≡ shifts_after shifts event }
 {
     match event {
         Event::Control {

@@ -15,7 +15,7 @@ use Rattle.model.specs.declared.Voice.{Voice}
 use Rattle.model.specs.declared.Event.{Event}
 use Rattle.model.proofs.Tests.{and_right}
 use Rattle.inverse.proofs.Sequence.{AllFit}
-use Rattle.inverse.proofs.ReadWrites.{body-fits}
+use Rattle.inverse.proofs.ReadWrites.{body_fits}
 use Rattle.sections.specs.Spans.{Items, Rising}
 use Rattle.sections.proofs.Throughout.{OfItem, OfItems, OfMessages, of_tune}
 use Rattle.sections.proofs.Tunes.{tune_rises}
@@ -62,7 +62,7 @@ pub tune_writable : (track : Track) (sections : List Section) → Readable track
     → WritableTune track.voice (retold (content_of track.body) (tune_in track sections))
 unfolding tune_in retold
 tune_writable track sections readable e =
-    let fit = body-fits track.voice track.body readable.bytes track.items readable.reads in
+    let fit = body_fits track.voice track.body readable.bytes track.items readable.reads in
     let sound =
     of_tune (Fits track.voice track.body) track.items (items_sound track.voice track.body track.items fit) sections in
     let tune = tune_in track sections in

@@ -100,65 +100,65 @@ module _ (E : Type 0) (format : Format E) (some : 0 < format.longest) where
     heard past (item ∷ items) = with_message is_message (past + duration_of item) item (heard (past + duration_of item) items)
 
     -- they are the same wherever the items stand
-    messages-heard : (past : ℕ) (items : List (Placed (Item E))) → messages_of is_message (onsets_after past items) ≡ heard past (unplaced items)
+    messages_heard : (past : ℕ) (items : List (Placed (Item E))) → messages_of is_message (onsets_after past items) ≡ heard past (unplaced items)
     unfolding onsets_after messages_of
-    messages-heard past [] = refl
-    messages-heard past (item ∷ items) =
-        ap (with_message is_message (past + duration_of item.what) item.what) (messages-heard (past + duration_of item.what) items)
+    messages_heard past [] = refl
+    messages_heard past (item ∷ items) =
+        ap (with_message is_message (past + duration_of item.what) item.what) (messages_heard (past + duration_of item.what) items)
 
     -- a NOP takes its time
-    nop-heard : (past duration : ℕ) (items : List (Item E)) → heard past (timed duration format.nop ∷ items) ≡ heard (past + duration) items
+    nop_heard : (past duration : ℕ) (items : List (Item E)) → heard past (timed duration format.nop ∷ items) ≡ heard (past + duration) items
     unfolding with_message duration_of if◌then◌else◌
-    nop-heard past duration items = rw silent
+    nop_heard past duration items = rw silent
 
-    waits-heard : (count past : ℕ) (items : List (Item E)) → heard past (replicate count wait ++ items) ≡ heard (past + count * format.longest) items
-    waits-heard zero past items = ap (λ (n : ℕ). heard n items) (omega arith)
-    waits-heard (suc count) past items =
+    waits_heard : (count past : ℕ) (items : List (Item E)) → heard past (replicate count wait ++ items) ≡ heard (past + count * format.longest) items
+    waits_heard zero past items = ap (λ (n : ℕ). heard n items) (omega arith)
+    waits_heard (suc count) past items =
         let on : past + format.longest + count * format.longest ≡ past + suc count * format.longest = omega arith in
-        nop-heard past format.longest (replicate count wait ++ items) ∙ waits-heard count (past + format.longest) items ∙ ap (λ (n : ℕ). heard n items) on
+        nop_heard past format.longest (replicate count wait ++ items) ∙ waits_heard count (past + format.longest) items ∙ ap (λ (n : ℕ). heard n items) on
 
-    mark-heard : (past : ℕ) → heard past (end_mark ∷ []) ≡ []
+    mark_heard : (past : ℕ) → heard past (end_mark ∷ []) ≡ []
     unfolding with_message
-    mark-heard past = refl
+    mark_heard past = refl
 
     -- the rest before the end
-    rest-heard : (past gap : ℕ) → heard past (rest format gap ++ (end_mark ∷ [])) ≡ []
+    rest_heard : (past gap : ℕ) → heard past (rest format gap ++ (end_mark ∷ [])) ≡ []
     unfolding rest waits if◌then◌else◌
-    rest-heard past gap =
+    rest_heard past gap =
         let count = times format.longest gap in
         let over = left format.longest gap in
-        by_test (over ≡? 0) (λ t. simp t (waits-heard count past (end_mark ∷ []) ∙ mark-heard (past + count * format.longest)))
+        by_test (over ≡? 0) (λ t. simp t (waits_heard count past (end_mark ∷ []) ∙ mark_heard (past + count * format.longest)))
         (λ t.
         simp t
         (ap (heard past) (append_assoc (replicate count wait) (timed over format.nop ∷ []) (end_mark ∷ []))
-        ∙ waits-heard count past (timed over format.nop ∷ end_mark ∷ [])
-        ∙ nop-heard (past + count * format.longest) over (end_mark ∷ [])
-        ∙ mark-heard (past + count * format.longest + over)))
+        ∙ waits_heard count past (timed over format.nop ∷ end_mark ∷ [])
+        ∙ nop_heard (past + count * format.longest) over (end_mark ∷ [])
+        ∙ mark_heard (past + count * format.longest + over)))
 
     -- a message at its step
-    message-heard : (past : ℕ) (at : At E) (items : List (Item E)) → past ≤ at.step → is_message at.event ≡ true
+    message_heard : (past : ℕ) (at : At E) (items : List (Item E)) → past ≤ at.step → is_message at.event ≡ true
         → heard past (waits format (at.step - past) ++ (timed (left format.longest (at.step - past)) at.event ∷ items))
         ≡ at ∷ heard at.step items
     unfolding waits with_message duration_of if◌then◌else◌
-    message-heard past at items h m =
+    message_heard past at items h m =
         let gap = at.step - past in
         let all = gap_is format.longest gap some in
         let on : past + times format.longest gap * format.longest + left format.longest gap ≡ at.step = omega arith in
-        waits-heard (times format.longest gap) past (timed (left format.longest gap) at.event ∷ items) ∙ rw (m, on)
+        waits_heard (times format.longest gap) past (timed (left format.longest gap) at.event ∷ items) ∙ rw (m, on)
 
-    plain-heard : (past : ℕ) (messages : List (At E)) (end : ℕ) → Rises past end messages → AllSaid is_message messages
+    plain_heard : (past : ℕ) (messages : List (At E)) (end : ℕ) → Rises past end messages → AllSaid is_message messages
         → heard past (plain_after format past messages end) ≡ messages
     unfolding plain_after
-    plain-heard past [] end rises said = rest-heard past (end - past)
-    plain-heard past (at ∷ messages) end rises said =
-        message-heard past at (plain_after format at.step messages end) rises.0 said.0
-        ∙ ap (λ (later : List (At E)). at ∷ later) (plain-heard at.step messages end rises.1 said.1)
+    plain_heard past [] end rises said = rest_heard past (end - past)
+    plain_heard past (at ∷ messages) end rises said =
+        message_heard past at (plain_after format at.step messages end) rises.0 said.0
+        ∙ ap (λ (later : List (At E)). at ∷ later) (plain_heard at.step messages end rises.1 said.1)
 
     -- THE SAME MESSAGES, in the same order, at the same steps
-    pub plain-plays : (past : ℕ) (messages : List (At E)) (end : ℕ) → Rises past end messages → AllSaid is_message messages
+    pub plain_plays : (past : ℕ) (messages : List (At E)) (end : ℕ) → Rises past end messages → AllSaid is_message messages
         → (items : List (Placed (Item E))) → unplaced items ≡ plain_after format past messages end
         → messages_of is_message (onsets_after past (to_mark items)) ≡ messages
-    plain-plays past messages end rises said items e =
-        messages-heard past (to_mark items)
+    plain_plays past messages end rises said items e =
+        messages_heard past (to_mark items)
         ∙ ap (heard past) (plain_up_to_mark format past messages end items e)
-        ∙ plain-heard past messages end rises said
+        ∙ plain_heard past messages end rises said

@@ -15,7 +15,7 @@ use Rattle.inverse.proofs.WrittenReads.{sequence_reads}
 use Rattle.sections.specs.Spans.{Items}
 use Rattle.sections.proofs.WholeStream.{streamed}
 use Rattle.plain.proofs.PlainItems.{Ended, plain_ends, ended_closes, Writable, plain_fits, plain_some}
-use Rattle.plain.proofs.PlainPlays.{Rises, AllSaid, unplaced, plain-plays, plain_lasts}
+use Rattle.plain.proofs.PlainPlays.{Rises, AllSaid, unplaced, plain_plays, plain_lasts}
 use Rattle.plain.proofs.Streams.{told_items, stream_told}
 
 -- a tune that can be written: its messages never fall back, end where it ends, and are messages of the voice
@@ -43,7 +43,7 @@ module _ (voice : Voice) (tune : Tune Content) (ok : WritableTune voice tune) wh
       let lasts = plain_lasts Content handy_phone (omega arith) 0 tune.messages tune.end ok.rises (told_items body items) what in
       stream_told body items
       ∙ ap₂ (λ (messages : List (At Content)) (end : ℕ). record { messages = messages; end = end })
-      (plain-plays Content handy_phone (omega arith) is_said refl 0 tune.messages tune.end ok.rises ok.said (told_items body items) what)
+      (plain_plays Content handy_phone (omega arith) is_said refl 0 tune.messages tune.end ok.rises ok.said (told_items body items) what)
       (omega arith)
 
   pub plain_reads : Plain voice tune

@@ -18,25 +18,25 @@ use Rattle.model.specs.declared.Span.{Span}
 use Rattle.sections.specs.Spans.{span_of, passage_of, span_rows, Small, Rising, SpanRises}
 use Rattle.sections.proofs.Stretches.{span_sounds}
 use Rattle.sections.proofs.Tunes.{Rises, phrase_section_rises}
-use Rattle.sections.proofs.Small.{between-small}
+use Rattle.sections.proofs.Small.{between_small}
 use Rattle.playing.specs.Performing.{letter_section, letter_span}
 
 module _ (voice : Voice) (s : List ℕ) (bytes : (k : ℕ) → s ! k < 256) (small : length s ≤ 65536) (reads : is_fine (body_of voice s) ≡ true) where
   phrase_small : (phrase : Option Addresses) → Small (length s) (span_of (items_of voice s) (length s) (phrase_section (items_of voice s) phrase))
   unfolding phrase_section passage_of
-  phrase_small none = between-small voice s bytes small reads _ 0 0 refl
-  phrase_small (some addresses) = between-small voice s bytes small reads _ addresses.from addresses.to refl
+  phrase_small none = between_small voice s bytes small reads _ 0 0 refl
+  phrase_small (some addresses) = between_small voice s bytes small reads _ addresses.from addresses.to refl
 
   module _ (entries : List (Placed Entry)) (letter : ℕ) where
     letter_small : Small (length s) (letter_span (items_of voice s) (length s) entries letter)
     unfolding letter_span letter_section
     letter_small = phrase_small (phrase_of letter entries)
 
-    pub letter-few : (letter_span (items_of voice s) (length s) entries letter).messages ≤ 65536
-    letter-few = omega (arith, letter_small.few)
+    pub letter_few : (letter_span (items_of voice s) (length s) entries letter).messages ≤ 65536
+    letter_few = omega (arith, letter_small.few)
 
-    pub letter-short : (letter_span (items_of voice s) (length s) entries letter).lasts ≤ 1082064896
-    letter-short = omega (arith, letter_small.short)
+    pub letter_short : (letter_span (items_of voice s) (length s) entries letter).lasts ≤ 1082064896
+    letter_short = omega (arith, letter_small.short)
 
 -- the span of a section that rises, rises
 pub span_rises : (voice : Voice) (body : List ℕ) → is_fine (body_of voice body) ≡ true → (section : Section) → Rises (items_of voice body) section

@@ -23,8 +23,8 @@ use Rattle.model.proofs.Parts.{take_bytes}
 use Rattle.model.proofs.Picking.{through_at, through_whole}
 use Rattle.sections.specs.Spans.{Items, passage_of, SpanRises}
 use Rattle.playing.specs.Performing.{no_span, span_at, letter_section, letter_passage, letter_span, letters_heard, Named, Spanned, AllPlayable, AllFew, AllShort, messages_together, lasts_together, total_of, Found}
-use Rattle.playing.proofs.Bounded.{letter-few, letter-short, letter_rises}
-use Rattle.playing.proofs.Tables.{Table, Known, table_starts, table_weaken, known-now}
+use Rattle.playing.proofs.Bounded.{letter_few, letter_short, letter_rises}
+use Rattle.playing.proofs.Tables.{Table, Known, table_starts, table_weaken, known_now}
 
 -- each letter of a list that is named has a phrase
 pub named_here : (entries : List (Placed Entry)) (letters : List ℕ) (i : ℕ) → Named entries letters → i < length letters
@@ -81,22 +81,22 @@ module _ (items : Items) (size : ℕ) (entries : List (Placed Entry)) where
     pub seen : (j : ℕ) → j < i → get_or known (letters ! j) false ≡ true
 
   module _ (letters : List ℕ) (spans : List Span) (known : List Bool) (i : ℕ) (p : Finding letters spans known i) where
-    pub find-slot : letters ! i < 256
-    find-slot = p.bytes i
+    pub find_slot : letters ! i < 256
+    find_slot = p.bytes i
 
-    pub find-slot-fits : Fits w64 (letters ! i)
-    find-slot-fits = record { fits = omega (arith, p.bytes i) }
+    pub find_slot_fits : Fits w64 (letters ! i)
+    find_slot_fits = record { fits = omega (arith, p.bytes i) }
 
-    pub find-offset-fits : Fits w64 (letters ! i * 40)
-    find-offset-fits = record { fits = omega (arith, p.bytes i) }
+    pub find_offset_fits : Fits w64 (letters ! i * 40)
+    find_offset_fits = record { fits = omega (arith, p.bytes i) }
 
-    pub find-next-fits : i < length letters → Fits w64 (i + 1)
-    find-next-fits here = record { fits = omega (arith, p.listed) }
+    pub find_next_fits : i < length letters → Fits w64 (i + 1)
+    find_next_fits here = record { fits = omega (arith, p.listed) }
 
     -- so many letters whose spans are right, and which are those that are played
-    found-so : (spans' : List Span) (count : ℕ) → count ≤ length letters → ((j : ℕ) → j < count → SpanOf (letters ! j) (span_at spans' (letters ! j)))
+    found_so : (spans' : List Span) (count : ℕ) → count ≤ length letters → ((j : ℕ) → j < count → SpanOf (letters ! j) (span_at spans' (letters ! j)))
         → take count letters ≡ letters_heard items entries letters → Found items size entries letters (record { spans = spans'; letters = count })
-    found-so spans' count within right are =
+    found_so spans' count within right are =
         let front = take count letters in
         let fewer : (j : ℕ) → j < length front → j < count = λ j h. omega (arith, length-take count letters) in
         let is : Spanned items size entries spans' front =
@@ -123,12 +123,12 @@ module _ (items : Items) (size : ℕ) (entries : List (Placed Entry)) where
     unfolding letters_heard
     find_ends past =
         let all : i ≡ length letters = omega (arith, p.within) in
-        found-so spans i p.within (λ j h. (before j h).0)
+        found_so spans i p.within (λ j h. (before j h).0)
         (ap (λ (n : ℕ). take n letters) all ∙ take-length letters ∙ through_whole Stops letters (λ j h. (before j (omega arith)).1))
 
-    pub find-turns : (spans' : List Span) (known' : List Bool) → i < length letters → Known no_span PassedBy (letters ! i) known spans' known'
+    pub find_turns : (spans' : List Span) (known' : List Bool) → i < length letters → Known no_span PassedBy (letters ! i) known spans' known'
         → Finding letters spans' known' (i + 1)
-    find-turns spans' known' here k =
+    find_turns spans' known' here k =
         record {
           bytes = p.bytes;
           few = p.few;
@@ -146,12 +146,12 @@ module _ (items : Items) (size : ℕ) (entries : List (Placed Entry)) where
     -- a letter that is met for the first time
     module _ (here : i < length letters) (passage : Passage) (is : passage ≡ letter_passage items size entries (letters ! i)) where
       -- playing stops in its section
-      pub find-stops : passage.stops ≡ true → Found items size entries letters (record { spans = set spans (letters ! i) passage.span; letters = i + 1 })
+      pub find_stops : passage.stops ≡ true → Found items size entries letters (record { spans = set spans (letters ! i) passage.span; letters = i + 1 })
       unfolding letters_heard
-      find-stops stops =
+      find_stops stops =
           let loose = table_weaken no_span PassedBy SpanOf spans known (λ slot span right. right.0) p.table in
-          let k = known-now no_span SpanOf (letters ! i) spans known loose _ _ passage.span (p.bytes i) (passage_span (letters ! i) passage is) refl refl in
-          found-so (set spans (letters ! i) passage.span) (i + 1) (omega arith)
+          let k = known_now no_span SpanOf (letters ! i) spans known loose _ _ passage.span (p.bytes i) (passage_span (letters ! i) passage is) refl refl in
+          found_so (set spans (letters ! i) passage.span) (i + 1) (omega arith)
           (λ j h. k.table.right (letters ! j) (elim (dec_lt j i) [
             | yes q ↦ k.kept (letters ! j) (p.seen j q)
             | no q ↦ let e : j ≡ i = omega arith in rw e k.here
@@ -164,8 +164,8 @@ pub find_starts : (voice : Voice) (s : List ℕ) (entries : List (Placed Entry))
 find_starts voice s entries letters span bytes letter-bytes small reads listed =
     record {
       bytes = letter-bytes;
-      few = letter-few voice s bytes small reads entries;
-      short = letter-short voice s bytes small reads entries;
+      few = letter_few voice s bytes small reads entries;
+      short = letter_short voice s bytes small reads entries;
       rise = letter_rises voice s reads entries;
       listed = listed;
       within = omega arith;
@@ -173,7 +173,7 @@ find_starts voice s entries letters span bytes letter-bytes small reads listed =
       seen = λ j h. absurd (omega arith);
     }
 
-pub ruleset finding = (named_here, find-slot, find-slot-fits, find-offset-fits, find-next-fits, find_ends, find-turns, find-stops)
+pub ruleset finding = (named_here, find_slot, find_slot_fits, find_offset_fits, find_next_fits, find_ends, find_turns, find_stops)
 
 -- WHAT THEY COME TO together
 
@@ -225,18 +225,18 @@ module _ (spans : List Span) (letters : List ℕ) (count end i : ℕ) (p : Addin
     next : drop i letters ≡ letters ! i ∷ drop (i + 1) letters
     next = let on : suc i ≡ i + 1 = omega arith in drop-cons letters i 0 here ∙ ap (λ (n : ℕ). letters ! i ∷ drop n letters) on
 
-    pub add-counts : Fits w64 (count + (span_at spans (letters ! i)).messages)
-    add-counts = record { fits = omega (arith, p.few i here, p.many, p.listed) }
+    pub add_counts : Fits w64 (count + (span_at spans (letters ! i)).messages)
+    add_counts = record { fits = omega (arith, p.few i here, p.many, p.listed) }
 
-    pub add-lasts : Fits w64 (end + (span_at spans (letters ! i)).lasts)
-    add-lasts = record { fits = omega (arith, p.short i here, p.long, p.listed) }
+    pub add_lasts : Fits w64 (end + (span_at spans (letters ! i)).lasts)
+    add_lasts = record { fits = omega (arith, p.short i here, p.long, p.listed) }
 
-    pub add-next-fits : Fits w64 (i + 1)
-    add-next-fits = record { fits = omega (arith, p.listed) }
+    pub add_next_fits : Fits w64 (i + 1)
+    add_next_fits = record { fits = omega (arith, p.listed) }
 
-    pub add-turns : Adding spans letters (count + (span_at spans (letters ! i)).messages) (end + (span_at spans (letters ! i)).lasts) (i + 1)
+    pub add_turns : Adding spans letters (count + (span_at spans (letters ! i)).messages) (end + (span_at spans (letters ! i)).lasts) (i + 1)
     unfolding messages_together lasts_together
-    add-turns =
+    add_turns =
         record {
           bytes = p.bytes;
           listed = p.listed;
@@ -249,4 +249,4 @@ module _ (spans : List Span) (letters : List ℕ) (count end i : ℕ) (p : Addin
           ended = add_assoc end _ _ ∙ ap (λ (l : List ℕ). end + lasts_together spans l) (sym next) ∙ p.ended;
         }
 
-pub ruleset adding = (add_slot, add_slot_fits, add_offset_fits, add_ends, add-counts, add-lasts, add-next-fits, add-turns)
+pub ruleset adding = (add_slot, add_slot_fits, add_offset_fits, add_ends, add_counts, add_lasts, add_next_fits, add_turns)

@@ -131,32 +131,32 @@ module _ (s : List ℕ) (voice : Voice) (place size : ℕ) (inside : place + 8 +
 
   module _ (sought : FoundChunk) (seeks : sought ≡ found_chunk (part_named (part_id parts.Seek voice) (found (chunks_in s (place + 8 + 6) (place + 8 + size)))))
       (from many : ℕ) (e : sought ≡ At from many) where
-    seek-there : from + 8 + many ≤ length s
-    seek-there = part_there s (place + 8 + 6) (place + 8 + size) (part_id parts.Seek voice) sought seeks opens_from inside opens_fine from many e
+    seek_there : from + 8 + many ≤ length s
+    seek_there = part_there s (place + 8 + 6) (place + 8 + size) (part_id parts.Seek voice) sought seeks opens_from inside opens_fine from many e
 
-    pub opens-seek-fits : Fits w64 (from + 8)
-    opens-seek-fits = record { fits = omega (arith, seek-there) }
+    pub opens_seek_fits : Fits w64 (from + 8)
+    opens_seek_fits = record { fits = omega (arith, seek_there) }
 
   module _ (r : FoundChunk) (is : r ≡ found_chunk (part_named (part_id parts.Sequence voice) (found (chunks_in s (place + 8 + 6) (place + 8 + size))))) where
-    sequence-is : r ≡ At made.sequence.place made.sequence.size
+    sequence_is : r ≡ At made.sequence.place made.sequence.size
     unfolding found_chunk
-    sequence-is = is ∙ ap found_chunk (named_in (part_id parts.Sequence voice) ∙ made.named)
+    sequence_is = is ∙ ap found_chunk (named_in (part_id parts.Sequence voice) ∙ made.named)
 
-    pub opens-never : r ≡ Nowhere → Opens s (track_in (track_of s voice (placed s place size))) opened.Nowhere
-    opens-never e = let q = sym sequence-is ∙ e in let z : ◌≡◌ {A = ℕ} 0 1 = cc in absurd (omega arith)
+    pub opens_never : r ≡ Nowhere → Opens s (track_in (track_of s voice (placed s place size))) opened.Nowhere
+    opens_never e = let q = sym sequence_is ∙ e in let z : ◌≡◌ {A = ℕ} 0 1 = cc in absurd (omega arith)
 
     module _ (at many : ℕ) (e : r ≡ At at many) where
-      pub opens-there : at + 8 + many ≤ length s
-      opens-there = part_there s (place + 8 + 6) (place + 8 + size) (part_id parts.Sequence voice) r is opens_from inside opens_fine at many e
+      pub opens_there : at + 8 + many ≤ length s
+      opens_there = part_there s (place + 8 + 6) (place + 8 + size) (part_id parts.Sequence voice) r is opens_from inside opens_fine at many e
 
-      pub opens-fits : Fits w64 (at + 8)
-      opens-fits = record { fits = omega (arith, opens-there) }
+      pub opens_fits : Fits w64 (at + 8)
+      opens_fits = record { fits = omega (arith, opens_there) }
 
       same_place : at ≡ made.sequence.place
-      same_place = let q : At at many ≡ At made.sequence.place made.sequence.size = sym e ∙ sequence-is in cc
+      same_place = let q : At at many ≡ At made.sequence.place made.sequence.size = sym e ∙ sequence_is in cc
 
       same_size : many ≡ made.sequence.size
-      same_size = let q : At at many ≡ At made.sequence.place made.sequence.size = sym e ∙ sequence-is in cc
+      same_size = let q : At at many ≡ At made.sequence.place made.sequence.size = sym e ∙ sequence_is in cc
 
       abbrev body : List ℕ
       body = part s (at + 8) many
@@ -167,22 +167,22 @@ module _ (s : List ℕ) (voice : Voice) (place size : ℕ) (inside : place + 8 +
       reads : body_of voice body ≡ fine the_track.0.items
       reads = ap (body_of voice) (sym body_is) ∙ made.reads
 
-      items-are : the_track.0.items ≡ items_of voice body
+      items_are : the_track.0.items ≡ items_of voice body
       unfolding items_of found
-      items-are = sym (ap found reads)
+      items_are = sym (ap found reads)
 
       module _ (phrases : Bool) (flag : phrases ≡ (s ! (place + 8 + 1) ≡? 1)) where
-        abbrev bodiesWith : Extent → Bodies
-        bodiesWith seek = record { header = place; voice = voice; phrases = phrases; sequence = record { place = at + 8; size = many }; seek = seek }
+        abbrev bodies_with : Extent → Bodies
+        bodies_with seek = record { header = place; voice = voice; phrases = phrases; sequence = record { place = at + 8; size = many }; seek = seek }
 
-        open-with : (seek : Extent) → seek.place + seek.size ≤ length s
-            → Sought phrases the_track.0.items (length body) (bytes_in s seek) the_track.0.entries → Open s (bodiesWith seek) the_track.0
+        open_with : (seek : Extent) → seek.place + seek.size ≤ length s
+            → Sought phrases the_track.0.items (length body) (bytes_in s seek) the_track.0.entries → Open s (bodies_with seek) the_track.0
         unfolding is_fine
-        open-with seek there sought =
+        open_with seek there sought =
             record {
               inside =
                   record {
-                    sequence = omega (arith, opens-there);
+                    sequence = omega (arith, opens_there);
                     seek = there;
                     ready =
                         record {
@@ -190,33 +190,33 @@ module _ (s : List ℕ) (voice : Voice) (place size : ℕ) (inside : place + 8 +
                           few = omega (arith, part_short s seek.place seek.size);
                           reads = ap is_fine reads;
                           formed = sought.formed;
-                          holds = ap (λ (i : List (Placed (Item Event))). points_of phrases i (length body) (entries_said phrases (bytes_in s seek))) (sym items-are) ∙ sought.holds;
+                          holds = ap (λ (i : List (Placed (Item Event))). points_of phrases i (length body) (entries_said phrases (bytes_in s seek))) (sym items_are) ∙ sought.holds;
                         };
                   };
               header = made.header;
               voice = made.voiced;
               phrases = made.phrased ∙ sym flag;
               body = made.body ∙ body_is;
-              items = items-are;
+              items = items_are;
               entries = sought.are;
             }
 
-        opened-as-track : (bodies : Bodies) → Open s bodies the_track.0 → Opens s (track_in (track_of s voice (placed s place size))) (opened.At bodies)
+        opened_as_track : (bodies : Bodies) → Open s bodies the_track.0 → Opens s (track_in (track_of s voice (placed s place size))) (opened.At bodies)
         unfolding track_in
-        opened-as-track bodies o = subst (λ (c : Checked Track). Opens s (track_in c) (opened.At bodies)) (sym the_track.1) o
+        opened_as_track bodies o = subst (λ (c : Checked Track). Opens s (track_in c) (opened.At bodies)) (sym the_track.1) o
 
-        entries-are : entries_of phrases the_track.0.items (length body) s (part_named (part_id parts.Seek voice) the_track.0.parts) ≡ fine the_track.0.entries
-        entries-are = rw (sym body_is, flag ∙ sym made.phrased) made.entries
+        entries_are : entries_of phrases the_track.0.items (length body) s (part_named (part_id parts.Seek voice) the_track.0.parts) ≡ fine the_track.0.entries
+        entries_are = rw (sym body_is, flag ∙ sym made.phrased) made.entries
 
         module _ (sought : FoundChunk) (seeks : sought ≡ found_chunk (part_named (part_id parts.Seek voice) (found (chunks_in s (place + 8 + 6) (place + 8 + size))))) where
           abbrev named : Option Chunk
           named = part_named (part_id parts.Seek voice) the_track.0.parts
 
-          found-is : sought ≡ found_chunk named
-          found-is = seeks ∙ ap found_chunk (named_in (part_id parts.Seek voice))
+          found_is : sought ≡ found_chunk named
+          found_is = seeks ∙ ap found_chunk (named_in (part_id parts.Seek voice))
 
           module _ (from length-of : ℕ) (found_at : sought ≡ At from length-of) where
-            pub opens-sought : Opens s (track_in (track_of s voice (placed s place size)))
+            pub opens_sought : Opens s (track_in (track_of s voice (placed s place size)))
                 (opened.At (record {
                   header = place;
                   voice = voice;
@@ -224,12 +224,12 @@ module _ (s : List ℕ) (voice : Voice) (place size : ℕ) (inside : place + 8 +
                   sequence = record { place = at + 8; size = many };
                   seek = record { place = from + 8; size = length-of };
                 }))
-            opens-sought =
-                opened-as-track _
-                (open-with (record { place = from + 8; size = length-of }) (omega (arith, seek-there sought seeks from length-of found_at))
-                (sought_at named phrases the_track.0.items (length body) s the_track.0.entries from length-of (sym found-is ∙ found_at) entries-are))
+            opens_sought =
+                opened_as_track _
+                (open_with (record { place = from + 8; size = length-of }) (omega (arith, seek_there sought seeks from length-of found_at))
+                (sought_at named phrases the_track.0.items (length body) s the_track.0.entries from length-of (sym found_is ∙ found_at) entries_are))
 
-          pub opens-unsought : sought ≡ Nowhere
+          pub opens_unsought : sought ≡ Nowhere
               → Opens s (track_in (track_of s voice (placed s place size)))
               (opened.At (record {
                 header = place;
@@ -238,9 +238,9 @@ module _ (s : List ℕ) (voice : Voice) (place size : ℕ) (inside : place + 8 +
                 sequence = record { place = at + 8; size = many };
                 seek = record { place = 0; size = 0 };
               }))
-          opens-unsought nowhere =
-              opened-as-track _
-              (open-with (record { place = 0; size = 0 }) (omega arith)
-              (unsought_at named phrases the_track.0.items (length body) s the_track.0.entries (sym found-is ∙ nowhere) entries-are))
+          opens_unsought nowhere =
+              opened_as_track _
+              (open_with (record { place = 0; size = 0 }) (omega arith)
+              (unsought_at named phrases the_track.0.items (length body) s the_track.0.entries (sym found_is ∙ nowhere) entries_are))
 
-pub ruleset openings = (opens_type, opens_from, opens_fine, opens-never, opens-there, opens-fits, opens-seek-fits, opens-sought, opens-unsought)
+pub ruleset openings = (opens_type, opens_from, opens_fine, opens_never, opens_there, opens_fits, opens_seek_fits, opens_sought, opens_unsought)

@@ -22,7 +22,7 @@ use Rattle.model.specs.declared.PlayAnswer.{PlayAnswer}
 use Rattle.model.specs.declared.PlayAnswer.TheVariants as play
 use Rattle.model.proofs.Tests.{by_test}
 use Rattle.reading.specs.Stages.{file_answer}
-use Rattle.reading.proofs.Stated.{stated_past, stated_over, stated-within, stated_small}
+use Rattle.reading.proofs.Stated.{stated_past, stated_over, stated_within, stated_small}
 use Rattle.playing.specs.Performing.{Ready, bytes_in, Inside, Open, Opens, track_named, fitted, played, heard, row_performed, row_played}
 use Rattle.playing.proofs.Played.{refused_answer, refused_steps, refused_words}
 use Rattle.playing.proofs.RowPerformed.{stated_fine, stated_refused, opened_track, row_inside, no_track}
@@ -54,15 +54,15 @@ module _ (s : List ℕ) (bodies : Bodies) (inside : Inside s bodies) (body seek 
         → r ≡ play_answer (heard bodies.voice bodies.phrases bodies.header room (bytes_in s bodies.sequence) (bytes_in s bodies.seek))
     bodies_answer = same_answer _ _ (bodies_heard room)
 
-    pub bodies-steps : (l m : List ℕ) → m ≡ steps_table l (heard bodies.voice flag bodies.header room body seek)
+    pub bodies_steps : (l m : List ℕ) → m ≡ steps_table l (heard bodies.voice flag bodies.header room body seek)
         → m ≡ steps_table l (heard bodies.voice bodies.phrases bodies.header room (bytes_in s bodies.sequence) (bytes_in s bodies.seek))
-    bodies-steps = same_steps _ _ (bodies_heard room)
+    bodies_steps = same_steps _ _ (bodies_heard room)
 
-    pub bodies-words : (l m : List ℕ) → m ≡ words_table l (heard bodies.voice flag bodies.header room body seek)
+    pub bodies_words : (l m : List ℕ) → m ≡ words_table l (heard bodies.voice flag bodies.header room body seek)
         → m ≡ words_table l (heard bodies.voice bodies.phrases bodies.header room (bytes_in s bodies.sequence) (bytes_in s bodies.seek))
-    bodies-words = same_words _ _ (bodies_heard room)
+    bodies_words = same_words _ _ (bodies_heard room)
 
-pub ruleset bodies_played = (bodies_ready, bodies_answer, bodies-steps, bodies-words)
+pub ruleset bodies_played = (bodies_ready, bodies_answer, bodies_steps, bodies_words)
 
 -- THE ROW
 
@@ -93,43 +93,43 @@ track_heard s room bodies track o = rw (o.header, o.phrases, o.items, o.entries)
 
 module _ (s : List ℕ) (row : ℕ) (o : OpenedTrack) (opens : Opens s (track_named (contents_of s) row) o) where
   module _ (bodies : Bodies) (e : o ≡ opened.At bodies) (room : ℕ) where
-    row-heard : heard bodies.voice bodies.phrases bodies.header room (bytes_in s bodies.sequence) (bytes_in s bodies.seek)
+    row_heard : heard bodies.voice bodies.phrases bodies.header room (bytes_in s bodies.sequence) (bytes_in s bodies.seek)
         ≡ row_played room (contents_of s) row
     unfolding row_played
-    row-heard =
+    row_heard =
         let found = opened_track s row o opens bodies e in
         track_heard s room bodies found.0 found.2 ∙ sym (order_played found.0 room (play_order found.0))
         ∙ ap (λ (c : Checked Performance). c >>= roomy room) (sym found.1)
 
-    pub row-answer : (r : PlayAnswer)
+    pub row_answer : (r : PlayAnswer)
         → r ≡ play_answer (heard bodies.voice bodies.phrases bodies.header room (bytes_in s bodies.sequence) (bytes_in s bodies.seek))
         → r ≡ play_answer (row_played room (contents_of s) row)
-    row-answer = same_answer _ _ row-heard
+    row_answer = same_answer _ _ row_heard
 
-    pub row-steps : (l m : List ℕ)
+    pub row_steps : (l m : List ℕ)
         → m ≡ steps_table l (heard bodies.voice bodies.phrases bodies.header room (bytes_in s bodies.sequence) (bytes_in s bodies.seek))
         → m ≡ steps_table l (row_played room (contents_of s) row)
-    row-steps = same_steps _ _ row-heard
+    row_steps = same_steps _ _ row_heard
 
     pub row_words : (l m : List ℕ)
         → m ≡ words_table l (heard bodies.voice bodies.phrases bodies.header room (bytes_in s bodies.sequence) (bytes_in s bodies.seek))
         → m ≡ words_table l (row_played room (contents_of s) row)
-    row_words = same_words _ _ row-heard
+    row_words = same_words _ _ row_heard
 
   module _ (ok : is_fine (contents_of s) ≡ true) (room : ℕ) (e : o ≡ opened.Nowhere) where
     no_row : row_played room (contents_of s) row ≡ refused 16 0
     no_row = row_refused room row (contents_of s) 16 0 (no_track s row o opens ok e)
 
-    pub no-row-answer : play.Refused 16 0 ≡ play_answer (row_played room (contents_of s) row)
-    no-row-answer = refused_answer _ 16 0 no_row
+    pub no_row_answer : play.Refused 16 0 ≡ play_answer (row_played room (contents_of s) row)
+    no_row_answer = refused_answer _ 16 0 no_row
 
-    pub no-row-steps : (l : List ℕ) → l ≡ steps_table l (row_played room (contents_of s) row)
-    no-row-steps = refused_steps _ 16 0 no_row
+    pub no_row_steps : (l : List ℕ) → l ≡ steps_table l (row_played room (contents_of s) row)
+    no_row_steps = refused_steps _ 16 0 no_row
 
-    pub no-row-words : (l : List ℕ) → l ≡ words_table l (row_played room (contents_of s) row)
-    no-row-words = refused_words _ 16 0 no_row
+    pub no_row_words : (l : List ℕ) → l ≡ words_table l (row_played room (contents_of s) row)
+    no_row_words = refused_words _ 16 0 no_row
 
-pub ruleset rows_played = (row_inside, row-answer, row-steps, row_words, no-row-answer, no-row-steps, no-row-words)
+pub ruleset rows_played = (row_inside, row_answer, row_steps, row_words, no_row_answer, no_row_steps, no_row_words)
 
 -- THE STATED BYTES
 
@@ -141,13 +141,13 @@ module _ (s : List ℕ) (r : Counted) (told : r ≡ file_answer (contents_of s))
     pub stated_answer : play.Refused number place ≡ play_answer (row_played room (contents_of s) row)
     stated_answer = refused_answer _ number place stated
 
-    pub stated-steps : (l : List ℕ) → l ≡ steps_table l (row_played room (contents_of s) row)
-    stated-steps = refused_steps _ number place stated
+    pub stated_steps : (l : List ℕ) → l ≡ steps_table l (row_played room (contents_of s) row)
+    stated_steps = refused_steps _ number place stated
 
-    pub stated-words : (l : List ℕ) → l ≡ words_table l (row_played room (contents_of s) row)
-    stated-words = refused_words _ number place stated
+    pub stated_words : (l : List ℕ) → l ≡ words_table l (row_played room (contents_of s) row)
+    stated_words = refused_words _ number place stated
 
-pub ruleset stated_played = (stated_fine, stated_answer, stated-steps, stated-words)
+pub ruleset stated_played = (stated_fine, stated_answer, stated_steps, stated_words)
 
 -- THE BUFFER
 
@@ -184,15 +184,15 @@ module _ (buffer : List ℕ) (n row room : ℕ) where
 
   module _ (h : n ≤ length buffer) (k : n ≤ 65536) where
     within : row_played room (contents_of (take n buffer)) row ≡ play_of buffer n row room
-    within = sym (play_is buffer n row room (contents_of (take n buffer)) (stated-within buffer n h k))
+    within = sym (play_is buffer n row room (contents_of (take n buffer)) (stated_within buffer n h k))
 
-    pub whole-answer : (r : PlayAnswer) → r ≡ play_answer (row_played room (contents_of (take n buffer)) row) → r ≡ play_answer (play_of buffer n row room)
-    whole-answer = same_answer _ _ within
+    pub whole_answer : (r : PlayAnswer) → r ≡ play_answer (row_played room (contents_of (take n buffer)) row) → r ≡ play_answer (play_of buffer n row room)
+    whole_answer = same_answer _ _ within
 
-    pub whole-steps : (l m : List ℕ) → m ≡ steps_table l (row_played room (contents_of (take n buffer)) row) → m ≡ steps_table l (play_of buffer n row room)
-    whole-steps = same_steps _ _ within
+    pub whole_steps : (l m : List ℕ) → m ≡ steps_table l (row_played room (contents_of (take n buffer)) row) → m ≡ steps_table l (play_of buffer n row room)
+    whole_steps = same_steps _ _ within
 
     pub whole_words : (l m : List ℕ) → m ≡ words_table l (row_played room (contents_of (take n buffer)) row) → m ≡ words_table l (play_of buffer n row room)
     whole_words = same_words _ _ within
 
-pub ruleset buffers_played = (past_answer, past_steps, past_words, over_answer, over_steps, over_words, stated_small, whole-answer, whole-steps, whole_words)
+pub ruleset buffers_played = (past_answer, past_steps, past_words, over_answer, over_steps, over_words, stated_small, whole_answer, whole_steps, whole_words)

@@ -22,7 +22,7 @@ use Rattle.model.specs.declared.PlayAnswer.TheVariants as play
 use Rattle.sections.specs.Spans.{Items, steps_of, words_of}
 use Rattle.playing.specs.Performing.{entries_said, Ready, letter_section, Spanned, messages_together, lasts_together, total_of, Heard, Found, rows_together, tune_together, fitted, played, heard}
 use Rattle.playing.proofs.Played.{refused_answer, refused_steps, refused_words, tune_short, tune_answer, tune_steps, tune_words}
-use Rattle.playing.proofs.Together.{together-is, rows_count, short_enough}
+use Rattle.playing.proofs.Together.{together_is, rows_count, short_enough}
 
 module _ (voice : Voice) (header : ℕ) (body seek steps words : List ℕ) where
   abbrev items : Items
@@ -37,14 +37,14 @@ module _ (voice : Voice) (header : ℕ) (body seek steps words : List ℕ) where
     unfolding heard played
     no_order = rw none_there
 
-    pub unordered-answer : play.Refused 17 header ≡ play_answer (heard voice true header (min (length steps) (length words)) body seek)
-    unordered-answer = refused_answer _ 17 header no_order
+    pub unordered_answer : play.Refused 17 header ≡ play_answer (heard voice true header (min (length steps) (length words)) body seek)
+    unordered_answer = refused_answer _ 17 header no_order
 
-    pub unordered-steps : steps ≡ steps_table steps (heard voice true header (min (length steps) (length words)) body seek)
-    unordered-steps = refused_steps _ 17 header no_order steps
+    pub unordered_steps : steps ≡ steps_table steps (heard voice true header (min (length steps) (length words)) body seek)
+    unordered_steps = refused_steps _ 17 header no_order steps
 
-    pub unordered-words : words ≡ words_table words (heard voice true header (min (length steps) (length words)) body seek)
-    unordered-words = refused_words _ 17 header no_order words
+    pub unordered_words : words ≡ words_table words (heard voice true header (min (length steps) (length words)) body seek)
+    unordered_words = refused_words _ 17 header no_order words
 
   -- the letters up to where playing stops
   module _ (ready : Ready voice true body seek) (letters : List ℕ)
@@ -54,30 +54,30 @@ module _ (voice : Voice) (header : ℕ) (body seek steps words : List ℕ) where
     found_within = finds.within
 
     module _ (front : List ℕ) (are : front ≡ take found.letters letters) where
-      pub found-heard : Heard (items_of voice body) (length body) found.spans front
-      found-heard = subst (Heard items (length body) found.spans) (sym are) finds.heard
+      pub found_heard : Heard (items_of voice body) (length body) found.spans front
+      found_heard = subst (Heard items (length body) found.spans) (sym are) finds.heard
 
       order_is : fitted header room (tune_together items found.spans front) ≡ heard voice true header room body seek
       unfolding heard played
       order_is =
           ap (fitted header room)
-          (together-is voice body ready.reads (entries_said true seek) found.spans letters front (are ∙ finds.are)
+          (together_is voice body ready.reads (entries_said true seek) found.spans letters front (are ∙ finds.are)
           (subst (Spanned items (length body) (entries_said true seek) found.spans) (sym are) finds.spanned))
           ∙ sym (rw order refl)
 
-      pub order-answer : (r : PlayAnswer) → r ≡ play_answer (fitted header (min (length steps) (length words)) (tune_together (items_of voice body) found.spans front))
+      pub order_answer : (r : PlayAnswer) → r ≡ play_answer (fitted header (min (length steps) (length words)) (tune_together (items_of voice body) found.spans front))
           → r ≡ play_answer (heard voice true header (min (length steps) (length words)) body seek)
-      order-answer r e = e ∙ ap play_answer order_is
+      order_answer r e = e ∙ ap play_answer order_is
 
-      pub order-steps : (m : List ℕ) → m ≡ steps_table steps (fitted header (min (length steps) (length words)) (tune_together (items_of voice body) found.spans front))
+      pub order_steps : (m : List ℕ) → m ≡ steps_table steps (fitted header (min (length steps) (length words)) (tune_together (items_of voice body) found.spans front))
           → m ≡ steps_table steps (heard voice true header (min (length steps) (length words)) body seek)
-      order-steps m e = e ∙ ap (steps_table steps) order_is
+      order_steps m e = e ∙ ap (steps_table steps) order_is
 
-      pub order-words : (m : List ℕ) → m ≡ words_table words (fitted header (min (length steps) (length words)) (tune_together (items_of voice body) found.spans front))
+      pub order_words : (m : List ℕ) → m ≡ words_table words (fitted header (min (length steps) (length words)) (tune_together (items_of voice body) found.spans front))
           → m ≡ words_table words (heard voice true header (min (length steps) (length words)) body seek)
-      order-words m e = e ∙ ap (words_table words) order_is
+      order_words m e = e ∙ ap (words_table words) order_is
 
-pub ruleset order_played = (unordered-answer, unordered-steps, unordered-words, found_within, found-heard, order-answer, order-steps, order-words)
+pub ruleset order_played = (unordered_answer, unordered_steps, unordered_words, found_within, found_heard, order_answer, order_steps, order_words)
 
 -- LETTERS BY A TABLE of spans
 
@@ -107,12 +107,12 @@ module _ (voice : Voice) (header : ℕ) (body steps words : List ℕ) (spans : L
   rows_are = refl
 
   module _ (total : Total) (is : total ≡ total_of spans letters) (least : ℕ) (shorter : least ≡ min (length steps) (length words)) where
-    count-is : total.count ≡ messages_together spans letters
+    count_is : total.count ≡ messages_together spans letters
     unfolding total_of
-    count-is = ap (λ (x : Total). x.count) is
+    count_is = ap (λ (x : Total). x.count) is
 
     many : total.count ≡ length (rows_together (items_of voice body) spans 0 letters)
-    many = count-is ∙ sym (rows_count voice body reads spans 0 letters h.playable)
+    many = count_is ∙ sym (rows_count voice body reads spans 0 letters h.playable)
 
     end_is : total.end ≡ tune.end
     unfolding total_of tune_together
@@ -121,29 +121,29 @@ module _ (voice : Voice) (header : ℕ) (body steps words : List ℕ) (spans : L
     short : least < total.count → outcome ≡ refused 15 header
     short few = tune_short _ header (min (length steps) (length words)) tune refl _ rows_are total.count many (omega arith)
 
-    pub spans-short : least < total.count → play.Refused 15 header ≡ play_answer (fitted header (min (length steps) (length words)) (tune_together (items_of voice body) spans letters))
-    spans-short few = refused_answer _ 15 header (short few)
+    pub spans_short : least < total.count → play.Refused 15 header ≡ play_answer (fitted header (min (length steps) (length words)) (tune_together (items_of voice body) spans letters))
+    spans_short few = refused_answer _ 15 header (short few)
 
-    pub spans-short-steps : least < total.count
+    pub spans_short_steps : least < total.count
         → steps ≡ steps_table steps (fitted header (min (length steps) (length words)) (tune_together (items_of voice body) spans letters))
-    spans-short-steps few = refused_steps _ 15 header (short few) steps
+    spans_short_steps few = refused_steps _ 15 header (short few) steps
 
-    pub spans-short-words : least < total.count
+    pub spans_short_words : least < total.count
         → words ≡ words_table words (fitted header (min (length steps) (length words)) (tune_together (items_of voice body) spans letters))
-    spans-short-words few = refused_words _ 15 header (short few) words
+    spans_short_words few = refused_words _ 15 header (short few) words
 
     module _ (enough : total.count ≤ least) where
-      pub spans-answer : play.Rows total.count total.end
+      pub spans_answer : play.Rows total.count total.end
           ≡ play_answer (fitted header (min (length steps) (length words)) (tune_together (items_of voice body) spans letters))
-      spans-answer = tune_answer _ header (min (length steps) (length words)) tune refl _ rows_are total.count many total.end end_is (omega arith)
+      spans_answer = tune_answer _ header (min (length steps) (length words)) tune refl _ rows_are total.count many total.end end_is (omega arith)
 
-      pub spans-steps : (m : List ℕ) → m ≡ sets steps 0 (steps_of (rows_together (items_of voice body) spans 0 letters))
+      pub spans_steps : (m : List ℕ) → m ≡ sets steps 0 (steps_of (rows_together (items_of voice body) spans 0 letters))
           → m ≡ steps_table steps (fitted header (min (length steps) (length words)) (tune_together (items_of voice body) spans letters))
-      spans-steps m e = tune_steps _ header (min (length steps) (length words)) tune refl _ rows_are total.count many steps m (omega arith) (omega arith) e
+      spans_steps m e = tune_steps _ header (min (length steps) (length words)) tune refl _ rows_are total.count many steps m (omega arith) (omega arith) e
 
-      pub spans-words : (m : List ℕ) → m ≡ sets words 0 (words_of (rows_together (items_of voice body) spans 0 letters))
+      pub spans_words : (m : List ℕ) → m ≡ sets words 0 (words_of (rows_together (items_of voice body) spans 0 letters))
           → m ≡ words_table words (fitted header (min (length steps) (length words)) (tune_together (items_of voice body) spans letters))
-      spans-words m e = tune_words _ header (min (length steps) (length words)) tune refl _ rows_are total.count many words m (omega arith) (omega arith) e
+      spans_words m e = tune_words _ header (min (length steps) (length words)) tune refl _ rows_are total.count many words m (omega arith) (omega arith) e
 
 pub ruleset spans_played =
-    (spans_short_enough, spans-short, spans-short-steps, spans-short-words, spans_steps_room, spans_words_room, spans-answer, spans-steps, spans-words)
+    (spans_short_enough, spans_short, spans_short_steps, spans_short_words, spans_steps_room, spans_words_room, spans_answer, spans_steps, spans_words)

@@ -96,18 +96,18 @@ module _ (voice : Voice) (body seek : List ℕ) (ready : Ready voice true body s
         absurd (false≢true (sym q ∙ sym has_list_lem ∙ has)))
         (λ h. h)
 
-    entries-all : entries_said true seek ≡ all_entries true seek
+    entries_all : entries_said true seek ≡ all_entries true seek
     unfolding entries_said
-    entries-all = if_false _ _ _ some_bytes
+    entries_all = if_false _ _ _ some_bytes
 
     formed : is_fine (seek_of (point_width true) seek) ≡ true
     formed = let other = eqb-false (length seek) 0 some_bytes in ready.formed (omega arith)
 
     stands : Ordered seek (all_entries true seek) (all_entries true seek)
-    stands = ordered true seek formed points (said ∙ ap points_said entries-all)
+    stands = ordered true seek formed points (said ∙ ap points_said entries_all)
 
     list_stands : Ordered seek entries entries
-    list_stands = subst (λ (e : List (Placed Entry)). Ordered seek e e) (sym entries-all) stands
+    list_stands = subst (λ (e : List (Placed Entry)). Ordered seek e e) (sym entries_all) stands
 
     placed_at : points.order ≡ (order_place entries otherwise 0)
     unfolding points_said
@@ -133,8 +133,8 @@ module _ (voice : Voice) (body seek : List ℕ) (ready : Ready voice true body s
     unfolding points_said
     started = ap (λ (p : Points). p.start) said
 
-    start-low : (start_point entries otherwise 0) ≤ length list
-    start-low =
+    start_low : (start_point entries otherwise 0) ≤ length list
+    start_low =
         said_or (λ (value : ℕ). value ≤ length list) (start_point entries) (λ value e. position value (start_holds _ _ entries rules.0 value e)) (omega arith)
 
     -- where the letters that are played end
@@ -147,9 +147,9 @@ module _ (voice : Voice) (body seek : List ℕ) (ready : Ready voice true body s
       low : last_position points ≤ length list
       from : points.start ≤ last_position points
 
-    last-stopped : points.stops ≡ true → Last
+    last_stopped : points.stops ≡ true → Last
     unfolding last_position points_said ◌otherwise◌
-    last-stopped h =
+    last_stopped h =
         let v = some_said (stop_point entries) (sym stop_is ∙ h) in
         let value : points.stop ≡ v.0 = ap (λ (p : Points). p.stop) said ∙ ap (λ (o : Option ℕ). o otherwise 0) v.1 in
         let last : last_position points ≡ v.0 = if_true _ _ _ h ∙ value in
@@ -162,22 +162,22 @@ module _ (voice : Voice) (body seek : List ℕ) (ready : Ready voice true body s
           from = omega (arith, started);
         }
 
-    last-open : points.stops ≡ false → Last
+    last_open : points.stops ≡ false → Last
     unfolding last_position ◌otherwise◌
-    last-open h =
+    last_open h =
         let v = none_said (stop_point entries) (sym stop_is ∙ h) in
         let last : last_position points ≡ length list = if_false _ _ _ h ∙ many in
         record {
           is = last ∙ sym (ap (λ (o : Option ℕ). o otherwise length list) v);
           low = omega arith;
-          from = omega (arith, started, start-low);
+          from = omega (arith, started, start_low);
         }
 
     last : Last
-    last = by_test points.stops last-stopped last-open
+    last = by_test points.stops last_stopped last_open
 
-    pub order-listed : Listed seek points
-    order-listed =
+    pub order_listed : Listed seek points
+    order_listed =
         record {
           inside = omega (arith, placed_at, many, list_stands.fits);
           small = ready.few;
@@ -187,28 +187,28 @@ module _ (voice : Voice) (body seek : List ℕ) (ready : Ready voice true body s
 
     -- the letters that are played
     module _ (letters : List ℕ) (cut : letters ≡ part seek (points.order + points.start) (last_position points - points.start)) where
-      played-are : letters ≡ part list points.start (last_position points - points.start)
-      played-are =
+      played_are : letters ≡ part list points.start (last_position points - points.start)
+      played_are =
           cut ∙ ap (λ (n : ℕ). part seek (n + points.start) (last_position points - points.start)) placed_at
           ∙ sym (part_of_part seek (order_place entries otherwise 0) (length list) points.start (last_position points - points.start) (omega (arith, last.low, last.from)))
           ∙ ap (λ (l : List ℕ). part l points.start (last_position points - points.start)) (sym list_stands.stands)
 
-      pub order-few : length letters ≤ 65536
-      order-few = let h = ready.few in rw cut (simp (length-take, length-drop) (omega arith))
+      pub order_few : length letters ≤ 65536
+      order_few = let h = ready.few in rw cut (simp (length-take, length-drop) (omega arith))
 
-      pub order-named : Named (entries_said true seek) letters
-      order-named i h =
-          let long : length letters ≡ last_position points - points.start = ap length played-are ∙ simp (length-take, length-drop) (omega (arith, last.low, last.from)) in
+      pub order_named : Named (entries_said true seek) letters
+      order_named i h =
+          let long : length letters ≡ last_position points - points.start = ap length played_are ∙ simp (length-take, length-drop) (omega (arith, last.low, last.from)) in
           let short : i < last_position points - points.start = omega arith in
           let inside : points.start + i < length list = omega (arith, last.low) in
-          let is : letters ! i ≡ list ! (points.start + i) = ap (λ (l : List ℕ). l ! i) played-are ∙ part_at list points.start (last_position points - points.start) i short in
+          let is : letters ! i ≡ list ! (points.start + i) = ap (λ (l : List ℕ). l ! i) played_are ∙ part_at list points.start (last_position points - points.start) i short in
           rw is (all_named (points.start + i) inside)
 
-      pub order-sections : order_of true (items_of voice body) (entries_said true seek) ≡ some (map (letter_section (items_of voice body) (entries_said true seek)) letters)
+      pub order_sections : order_of true (items_of voice body) (entries_said true seek) ≡ some (map (letter_section (items_of voice body) (entries_said true seek)) letters)
       unfolding order_of phrase_order letters_played letter_section
-      order-sections =
+      order_sections =
           rw listed
           (ap (λ (l : List ℕ). some (map (λ letter. phrase_section items (phrase_of letter entries)) l))
-          (ap₂ (λ (n k : ℕ). part list n (k - n)) (sym started) (sym last.is) ∙ sym played-are))
+          (ap₂ (λ (n k : ℕ). part list n (k - n)) (sym started) (sym last.is) ∙ sym played_are))
 
-pub ruleset orders = (unordered, order-listed, order-few, order-named, order-sections)
+pub ruleset orders = (unordered, order_listed, order_few, order_named, order_sections)

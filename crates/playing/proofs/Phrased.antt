@@ -81,31 +81,31 @@ module _ (voice : Voice) (body seek : List ℕ) (letter : ℕ) (ready : Ready vo
     told : (answer : FoundPhrase) → r ≡ answer → found_phrase (phrase_of letter (entries_said true seek)) ≡ answer
     told answer e = ap (λ (entries : List (Placed Entry)). found_phrase (phrase_of letter entries)) said.1 ∙ sym is ∙ e
 
-    pub letter-never : r ≡ Nowhere → (z : Passage) → z ≡ letter_passage (items_of voice body) (length body) (entries_said true seek) letter
-    letter-never e z = absurd (found_never _ named (told Nowhere e))
+    pub letter_never : r ≡ Nowhere → (z : Passage) → z ≡ letter_passage (items_of voice body) (length body) (entries_said true seek) letter
+    letter_never e z = absurd (found_never _ named (told Nowhere e))
 
     module _ (from to : ℕ) (e : r ≡ Between from to) where
-      phrase-said : phrase_of letter (entries_said true seek) ≡ some (record { from = from; to = to })
-      phrase-said = found_some _ from to (told (Between from to) e)
+      phrase_said : phrase_of letter (entries_said true seek) ≡ some (record { from = from; to = to })
+      phrase_said = found_some _ from to (told (Between from to) e)
 
       spans : is_span (is_address (items_of voice body) (length body)) from to ≡ true
-      spans = phrase_spans (items_of voice body) (length body) letter (entries_said true seek) _ ready.holds phrase-said
+      spans = phrase_spans (items_of voice body) (length body) letter (entries_said true seek) _ ready.holds phrase_said
 
-      pub letter-starts : is_address (items_of voice body) (length body) from ≡ true
+      pub letter_starts : is_address (items_of voice body) (length body) from ≡ true
       unfolding is_span
-      letter-starts = and_left _ _ spans
+      letter_starts = and_left _ _ spans
 
-      pub letter-stops : is_address (items_of voice body) (length body) to ≡ true
+      pub letter_stops : is_address (items_of voice body) (length body) to ≡ true
       unfolding is_span
-      letter-stops = and_left _ _ (and_right _ _ spans)
+      letter_stops = and_left _ _ (and_right _ _ spans)
 
-      pub letter-ordered : from ≤ to
+      pub letter_ordered : from ≤ to
       unfolding is_span
-      letter-ordered = ltb-false to from (not-true (to <? from) (and_right _ _ (and_right _ _ spans)))
+      letter_ordered = ltb-false to from (not-true (to <? from) (and_right _ _ (and_right _ _ spans)))
 
-      pub letter-is : (z : Passage) → z ≡ passage_between (items_of voice body) (length body) from to
+      pub letter_is : (z : Passage) → z ≡ passage_between (items_of voice body) (length body) from to
           → z ≡ letter_passage (items_of voice body) (length body) (entries_said true seek) letter
       unfolding letter_passage letter_section phrase_section
-      letter-is z q = q ∙ ap (λ (o : Option Addresses). passage_of (items_of voice body) (length body) (phrase_section (items_of voice body) o)) (sym phrase-said)
+      letter_is z q = q ∙ ap (λ (o : Option Addresses). passage_of (items_of voice body) (length body) (phrase_section (items_of voice body) o)) (sym phrase_said)
 
-pub ruleset phrased = (letter_formed, letter-never, letter-starts, letter-stops, letter-ordered, letter-is)
+pub ruleset phrased = (letter_formed, letter_never, letter_starts, letter_stops, letter_ordered, letter_is)

@@ -138,22 +138,22 @@ module _ (voice : Voice) (header : ℕ) (body seek steps words : List ℕ) (read
     pub stream_short : least < span.messages → play.Refused 15 header ≡ play_answer (heard voice false header (min (length steps) (length words)) body seek)
     stream_short h = refused_answer _ 15 header (short h)
 
-    pub stream-short-steps : least < span.messages → steps ≡ steps_table steps (heard voice false header (min (length steps) (length words)) body seek)
-    stream-short-steps h = refused_steps _ 15 header (short h) steps
+    pub stream_short_steps : least < span.messages → steps ≡ steps_table steps (heard voice false header (min (length steps) (length words)) body seek)
+    stream_short_steps h = refused_steps _ 15 header (short h) steps
 
-    pub stream-short-words : least < span.messages → words ≡ words_table words (heard voice false header (min (length steps) (length words)) body seek)
-    stream-short-words h = refused_words _ 15 header (short h) words
+    pub stream_short_words : least < span.messages → words ≡ words_table words (heard voice false header (min (length steps) (length words)) body seek)
+    stream_short_words h = refused_words _ 15 header (short h) words
 
   module _ (steps-room : span.messages ≤ length steps) (words-room : span.messages ≤ length words) where
-    pub stream-answer : play.Rows span.messages span.lasts ≡ play_answer (heard voice false header (min (length steps) (length words)) body seek)
-    stream-answer = tune_answer _ header room tune stream_is _ rows_are span.messages rows_many span.lasts lasts_are (omega arith)
+    pub stream_answer : play.Rows span.messages span.lasts ≡ play_answer (heard voice false header (min (length steps) (length words)) body seek)
+    stream_answer = tune_answer _ header room tune stream_is _ rows_are span.messages rows_many span.lasts lasts_are (omega arith)
 
-    pub stream-steps : (m : List ℕ) → m ≡ sets steps 0 (steps_of (span_rows (items_of voice body) span 0))
+    pub stream_steps : (m : List ℕ) → m ≡ sets steps 0 (steps_of (span_rows (items_of voice body) span 0))
         → m ≡ steps_table steps (heard voice false header (min (length steps) (length words)) body seek)
-    stream-steps m e = tune_steps _ header room tune stream_is _ rows_are span.messages rows_many steps m (omega arith) (omega arith) e
+    stream_steps m e = tune_steps _ header room tune stream_is _ rows_are span.messages rows_many steps m (omega arith) (omega arith) e
 
-    pub stream-words : (m : List ℕ) → m ≡ sets words 0 (words_of (span_rows (items_of voice body) span 0))
+    pub stream_words : (m : List ℕ) → m ≡ sets words 0 (words_of (span_rows (items_of voice body) span 0))
         → m ≡ words_table words (heard voice false header (min (length steps) (length words)) body seek)
-    stream-words m e = tune_words _ header room tune stream_is _ rows_are span.messages rows_many words m (omega arith) (omega arith) e
+    stream_words m e = tune_words _ header room tune stream_is _ rows_are span.messages rows_many words m (omega arith) (omega arith) e
 
-pub ruleset stream_played = (stream_playable, stream_short, stream-short-steps, stream-short-words, steps_have_room, words_have_room, stream-answer, stream-steps, stream-words)
+pub ruleset stream_played = (stream_playable, stream_short, stream_short_steps, stream_short_words, steps_have_room, words_have_room, stream_answer, stream_steps, stream_words)

@@ -33,14 +33,14 @@ module _ (phrases : Bool) (seek : List ℕ) where
   points_none h = simp eq-eqb
 
   module _ (some_bytes : length seek ≡ 0 → ⊥) where
-    pub points-formed : Formed phrases seek → is_fine (seek_of (point_width phrases) seek) ≡ true
-    points-formed formed = formed (omega arith)
+    pub points_formed : Formed phrases seek → is_fine (seek_of (point_width phrases) seek) ≡ true
+    points_formed formed = formed (omega arith)
 
-    pub points-some : (points : Points) → points ≡ points_said (found (seek_of (point_width phrases) seek)) → points ≡ points_said (entries_said phrases seek)
+    pub points_some : (points : Points) → points ≡ points_said (found (seek_of (point_width phrases) seek)) → points ≡ points_said (entries_said phrases seek)
     unfolding entries_said if◌then◌else◌
-    points-some points e = e ∙ ap points_said (sym (simp ne_eqb))
+    points_some points e = e ∙ ap points_said (sym (simp ne_eqb))
 
-pub ruleset saying = (points_none, points-formed, points-some)
+pub ruleset saying = (points_none, points_formed, points_some)
 
 -- THE POINTS OF A STREAM
 
@@ -115,21 +115,21 @@ module _ (voice : Voice) (body seek : List ℕ) (ready : Ready voice false body 
     unfolding points_said
     stopped = some_said (stop_point entries) (sym (ap (λ (p : Points). p.stops) said) ∙ stops)
 
-    stop-said : points.stop ≡ stopped.0
+    stop_said : points.stop ≡ stopped.0
     unfolding points_said ◌otherwise◌
-    stop-said = ap (λ (p : Points). p.stop) said ∙ ap (λ (o : Option ℕ). o otherwise 0) stopped.1
+    stop_said = ap (λ (p : Points). p.stop) said ∙ ap (λ (o : Option ℕ). o otherwise 0) stopped.1
 
-    pub stream-to : is_address (items_of voice body) (length body) points.stop ≡ true
-    stream-to = rw stop-said (stop_holds _ _ entries holds stopped.0 stopped.1).0
+    pub stream_to : is_address (items_of voice body) (length body) points.stop ≡ true
+    stream_to = rw stop_said (stop_holds _ _ entries holds stopped.0 stopped.1).0
 
     pub stream_rises : points.start ≤ points.stop
-    stream_rises = let h = (stop_holds _ _ entries holds stopped.0 stopped.1).1 in omega (arith, started, stop-said)
+    stream_rises = let h = (stop_holds _ _ entries holds stopped.0 stopped.1).1 in omega (arith, started, stop_said)
 
-    pub stream-between : (r : Passage) → r ≡ passage_between (items_of voice body) (length body) points.start points.stop
+    pub stream_between : (r : Passage) → r ≡ passage_between (items_of voice body) (length body) points.start points.stop
         → r.span ≡ span_of (items_of voice body) (length body)
         (stream_section (items_of voice body) (start_point (entries_said false seek) otherwise 0) (stop_point (entries_said false seek)))
     unfolding passage_of stream_section
-    stream-between r e = rw (stopped.1, sym started, sym stop-said) (ap (λ (x : Passage). x.span) e)
+    stream_between r e = rw (stopped.1, sym started, sym stop_said) (ap (λ (x : Passage). x.span) e)
 
   pub stream_open : (r : Span) → points.stops ≡ false → r ≡ span_from (items_of voice body) (length body) points.start
       → r ≡ span_of (items_of voice body) (length body)
@@ -139,4 +139,4 @@ module _ (voice : Voice) (body seek : List ℕ) (ready : Ready voice false body 
       let none_there = none_said (stop_point entries) (sym (ap (λ (p : Points). p.stops) said) ∙ stops) in
       rw (none_there, sym started) e
 
-pub ruleset streaming = (stream_from_lem, stream-to, stream_rises, stream-between, stream_open)
+pub ruleset streaming = (stream_from_lem, stream_to, stream_rises, stream_between, stream_open)

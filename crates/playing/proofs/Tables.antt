@@ -32,11 +32,11 @@ module _ {A : Type 0} (default : A) (Right : ℕ → A → Type 0) where
       }
 
   module _ (slot : ℕ) (values : List A) (known : List Bool) (table : Table values known) (values' : List A) (known' : List Bool) where
-    pub known-before : not (get_or known slot false) ≡ false → values' ≡ values → known' ≡ known → Known slot known values' known'
-    known-before here p q = rw (p, q) (record { table = table; here = not-false (get_or known slot false) here; kept = λ other h. h })
+    pub known_before : not (get_or known slot false) ≡ false → values' ≡ values → known' ≡ known → Known slot known values' known'
+    known_before here p q = rw (p, q) (record { table = table; here = not-false (get_or known slot false) here; kept = λ other h. h })
 
-    pub known-now : (r : A) → slot < 256 → Right slot r → values' ≡ set values slot r → known' ≡ set known slot true → Known slot known values' known'
-    known-now r small is p q =
+    pub known_now : (r : A) → slot < 256 → Right slot r → values' ≡ set values slot r → known' ≡ set known slot true → Known slot known values' known'
+    known_now r small is p q =
         rw (p, q) (record {
           table = record {
             wide = length-set values slot r ∙ table.wide;

@@ -47,27 +47,27 @@ module _ (voice : Voice) (s : List ℕ) (reads : is_fine (body_of voice s) ≡ t
   items = items_of voice s
 
   module _ (entries : List (Placed Entry)) (spans : List Span) where
-    letters-sound : (before : ℕ) (letters : List ℕ) → Spanned items (length s) entries spans letters
+    letters_sound : (before : ℕ) (letters : List ℕ) → Spanned items (length s) entries spans letters
         → rows_together items spans before letters ≡ played_from is_message (onsets_after 0 items) before (map (letter_section items entries) letters)
     unfolding rows_together played_from letter_span span_of
-    letters-sound before [] is = refl
-    letters-sound before (letter ∷ letters) is =
+    letters_sound before [] is = refl
+    letters_sound before (letter ∷ letters) is =
         let e = first_spanned items (length s) entries spans letter letters is in
         let section = letter_section items entries letter in
         ap₂ (λ (here later : List (At Event)). here ++ later)
         (ap (λ (span : Span). span_rows items span before) e ∙ span_sounds voice s reads section before)
         (ap (λ (span : Span). rows_together items spans (before + span.lasts) letters) e
-        ∙ letters-sound (before + lasts_in (onsets_after 0 items) section) letters (rest_spanned items (length s) entries spans letter letters is))
+        ∙ letters_sound (before + lasts_in (onsets_after 0 items) section) letters (rest_spanned items (length s) entries spans letter letters is))
 
     -- the letters up to where playing stops play what the whole order does
-    pub together-is : (letters heard : List ℕ) → heard ≡ letters_heard items entries letters → Spanned items (length s) entries spans heard
+    pub together_is : (letters heard : List ℕ) → heard ≡ letters_heard items entries letters → Spanned items (length s) entries spans heard
         → tune_together items spans heard ≡ tune_of is_message items (map (letter_section items entries) letters)
     unfolding tune_together tune_of sections_played all_played letters_heard
-    together-is letters heard are is =
+    together_is letters heard are is =
         let played : map (letter_section items entries) heard ≡ through (stops_in (onsets_after 0 items)) (map (letter_section items entries) letters) =
         ap (map (letter_section items entries)) are ∙ sym (through_map (stops_in (onsets_after 0 items)) (letter_section items entries) letters) in
         ap₂ (λ (messages : List (At Event)) (end : ℕ). record { messages = messages; end = end })
-        (letters-sound 0 heard is) (letters_last items (length s) entries spans heard is)
+        (letters_sound 0 heard is) (letters_last items (length s) entries spans heard is)
         ∙ ap (all_played is_message (onsets_after 0 items)) played
 
   pub rows_count : (spans : List Span) (before : ℕ) (letters : List ℕ) → AllPlayable items (length s) spans letters

@@ -99,25 +99,25 @@ module _ (voice : Voice) (s : List ℕ) (spans : List Span) (letters : List ℕ)
     none_left : length letters ≤ i → drop i letters ≡ []
     none_left past = let end : i ≡ length letters = omega (arith, w.within) in ap (λ (n : ℕ). drop n letters) end ∙ drop-length letters
 
-    pub write-steps : length letters ≤ i → out ≡ sets l 0 (steps_of (rows_together (items_of voice s) spans 0 letters))
+    pub write_steps : length letters ≤ i → out ≡ sets l 0 (steps_of (rows_together (items_of voice s) spans 0 letters))
     unfolding rows_together steps_of
-    write-steps past = ap (λ (x : List ℕ). sets out at (steps_of (rows_together (items_of voice s) spans before x))) (sym (none_left past)) ∙ w.steps
+    write_steps past = ap (λ (x : List ℕ). sets out at (steps_of (rows_together (items_of voice s) spans before x))) (sym (none_left past)) ∙ w.steps
 
-    pub write-words : length letters ≤ i → outs ≡ sets m 0 (words_of (rows_together (items_of voice s) spans 0 letters))
+    pub write_words : length letters ≤ i → outs ≡ sets m 0 (words_of (rows_together (items_of voice s) spans 0 letters))
     unfolding rows_together words_of
-    write-words past = ap (λ (x : List ℕ). sets outs at (words_of (rows_together (items_of voice s) spans before x))) (sym (none_left past)) ∙ w.words
+    write_words past = ap (λ (x : List ℕ). sets outs at (words_of (rows_together (items_of voice s) spans before x))) (sym (none_left past)) ∙ w.words
 
-    pub write-slot : letters ! i < 256
-    write-slot = w.bytes i
+    pub write_slot : letters ! i < 256
+    write_slot = w.bytes i
 
-    pub write-slot-fits : Fits w64 (letters ! i)
-    write-slot-fits = record { fits = omega (arith, w.bytes i) }
+    pub write_slot_fits : Fits w64 (letters ! i)
+    write_slot_fits = record { fits = omega (arith, w.bytes i) }
 
-    pub write-offset-fits : Fits w64 (letters ! i * 40)
-    write-offset-fits = record { fits = omega (arith, w.bytes i) }
+    pub write_offset_fits : Fits w64 (letters ! i * 40)
+    write_offset_fits = record { fits = omega (arith, w.bytes i) }
 
-    pub write-standing-fits : Fits w64 (letters ! i * 24)
-    write-standing-fits = record { fits = omega (arith, w.bytes i) }
+    pub write_standing_fits : Fits w64 (letters ! i * 24)
+    write_standing_fits = record { fits = omega (arith, w.bytes i) }
 
     module _ (here : i < length letters) where
       -- the span of the letter at hand
@@ -127,40 +127,40 @@ module _ (voice : Voice) (s : List ℕ) (spans : List Span) (letters : List ℕ)
       next : drop i letters ≡ letters ! i ∷ drop (i + 1) letters
       next = let on : suc i ≡ i + 1 = omega arith in drop-cons letters i 0 here ∙ ap (λ (n : ℕ). letters ! i ∷ drop n letters) on
 
-      messages-next : messages_together spans (drop i letters) ≡ span.messages + messages_together spans (drop (i + 1) letters)
+      messages_next : messages_together spans (drop i letters) ≡ span.messages + messages_together spans (drop (i + 1) letters)
       unfolding messages_together
-      messages-next = ap (messages_together spans) next
+      messages_next = ap (messages_together spans) next
 
-      lasts-next : lasts_together spans (drop i letters) ≡ span.lasts + lasts_together spans (drop (i + 1) letters)
+      lasts_next : lasts_together spans (drop i letters) ≡ span.lasts + lasts_together spans (drop (i + 1) letters)
       unfolding lasts_together
-      lasts-next = ap (lasts_together spans) next
+      lasts_next = ap (lasts_together spans) next
 
-      pub write-playable : Playable (items_of voice s) (length s) (span_at spans (letters ! i))
-      write-playable = w.playable i here
+      pub write_playable : Playable (items_of voice s) (length s) (span_at spans (letters ! i))
+      write_playable = w.playable i here
 
-      pub write-early : before + (span_at spans (letters ! i)).lasts ≤ 4611686018427387904
-      write-early = omega (arith, w.early, lasts-next)
+      pub write_early : before + (span_at spans (letters ! i)).lasts ≤ 4611686018427387904
+      write_early = omega (arith, w.early, lasts_next)
 
       pub write_known : StoredWhereKnown (items_of voice s) (span_at spans (letters ! i)) (get_or standings (letters ! i) nowhere) out outs at before
       write_known = w.known (letters ! i)
 
-      pub write-room-steps : at + (span_at spans (letters ! i)).messages ≤ length out
-      write-room-steps = omega (arith, w.room_steps, messages-next)
+      pub write_room_steps : at + (span_at spans (letters ! i)).messages ≤ length out
+      write_room_steps = omega (arith, w.room_steps, messages_next)
 
-      pub write-room-words : at + (span_at spans (letters ! i)).messages ≤ length outs
-      write-room-words = omega (arith, w.room_words, messages-next)
+      pub write_room_words : at + (span_at spans (letters ! i)).messages ≤ length outs
+      write_room_words = omega (arith, w.room_words, messages_next)
 
-      pub write-at-fits : Fits w64 (at + (span_at spans (letters ! i)).messages)
-      write-at-fits = record { fits = omega (arith, w.fits, messages-next) }
+      pub write_at_fits : Fits w64 (at + (span_at spans (letters ! i)).messages)
+      write_at_fits = record { fits = omega (arith, w.fits, messages_next) }
 
-      pub write-before-fits : Fits w64 (before + (span_at spans (letters ! i)).lasts)
-      write-before-fits = record { fits = omega (arith, w.early, lasts-next) }
+      pub write_before_fits : Fits w64 (before + (span_at spans (letters ! i)).lasts)
+      write_before_fits = record { fits = omega (arith, w.early, lasts_next) }
 
-      pub write-nears : Fits w64 (i + 1)
-      write-nears = record { fits = omega (arith, w.listed) }
+      pub write_nears : Fits w64 (i + 1)
+      write_nears = record { fits = omega (arith, w.listed) }
 
-      abbrev here-rows : List (At Event)
-      here-rows = span_rows (items_of voice s) span before
+      abbrev here_rows : List (At Event)
+      here_rows = span_rows (items_of voice s) span before
 
       abbrev later_rows : List (At Event)
       later_rows = rows_together (items_of voice s) spans (before + span.lasts) (drop (i + 1) letters)
@@ -168,47 +168,47 @@ module _ (voice : Voice) (s : List ℕ) (spans : List Span) (letters : List ℕ)
       abbrev at_next : ℕ
       at_next = at + span.messages
 
-      abbrev before-next : ℕ
-      before-next = before + span.lasts
+      abbrev before_next : ℕ
+      before_next = before + span.lasts
 
       abbrev steps_next : List ℕ
-      steps_next = sets out at (steps_of here-rows)
+      steps_next = sets out at (steps_of here_rows)
 
-      abbrev words-next : List ℕ
-      words-next = sets outs at (words_of here-rows)
+      abbrev words_next : List ℕ
+      words_next = sets outs at (words_of here_rows)
 
       -- what is known of where a span's rows stand, one letter on
-      still-known : (slot : ℕ) → StoredWhereKnown (items_of voice s) (span_at spans slot) (get_or standings slot nowhere) steps_next words-next at_next before-next
-      still-known slot =
-          stored_kept (items_of voice s) (span_at spans slot) out outs at before (get_or standings slot nowhere) (steps_of here-rows) (words_of here-rows)
-          at_next before-next (omega arith) (omega arith) (w.known slot)
+      still_known : (slot : ℕ) → StoredWhereKnown (items_of voice s) (span_at spans slot) (get_or standings slot nowhere) steps_next words_next at_next before_next
+      still_known slot =
+          stored_kept (items_of voice s) (span_at spans slot) out outs at before (get_or standings slot nowhere) (steps_of here_rows) (words_of here_rows)
+          at_next before_next (omega arith) (omega arith) (w.known slot)
 
-      now-known : StoredWhereKnown (items_of voice s) span (standing_at at before) steps_next words-next at_next before-next
-      now-known flag =
-          stored_new (items_of voice s) span out outs at before (rows_many voice s before span w.reads write-playable) write-room-steps write-room-words
+      now_known : StoredWhereKnown (items_of voice s) span (standing_at at before) steps_next words_next at_next before_next
+      now_known flag =
+          stored_new (items_of voice s) span out outs at before (rows_many voice s before span w.reads write_playable) write_room_steps write_room_words
           (w.rises i here before)
 
       known_next : (slot : ℕ) (standing : Standing) → standing ≡ standing_at at before
-          → StoredWhereKnown (items_of voice s) (span_at spans slot) (get_or (set standings (letters ! i) standing) slot nowhere) steps_next words-next at_next before-next
+          → StoredWhereKnown (items_of voice s) (span_at spans slot) (get_or (set standings (letters ! i) standing) slot nowhere) steps_next words_next at_next before_next
       known_next slot standing r =
           by_test (slot ≡? letters ! i)
           (λ t. let e = eqb-true slot (letters ! i) t in
-          rw (e, get_or-set_same standings (letters ! i) standing nowhere (omega (arith, w.slots, w.bytes i)), r) now-known)
-          (λ t. let e = eqb-false slot (letters ! i) t in rw (get_or-set_other standings (letters ! i) slot standing nowhere e) (still-known slot))
+          rw (e, get_or-set_same standings (letters ! i) standing nowhere (omega (arith, w.slots, w.bytes i)), r) now_known)
+          (λ t. let e = eqb-false slot (letters ! i) t in rw (get_or-set_other standings (letters ! i) slot standing nowhere e) (still_known slot))
 
-      rows_next : rows_together (items_of voice s) spans before (drop i letters) ≡ here-rows ++ later_rows
+      rows_next : rows_together (items_of voice s) spans before (drop i letters) ≡ here_rows ++ later_rows
       unfolding rows_together
       rows_next = ap (rows_together (items_of voice s) spans before) next
 
-      pub write-turns : (m₁ m₂ : List ℕ) → m₁ ≡ sets out at (steps_of (span_rows (items_of voice s) (span_at spans (letters ! i)) before))
+      pub write_turns : (m₁ m₂ : List ℕ) → m₁ ≡ sets out at (steps_of (span_rows (items_of voice s) (span_at spans (letters ! i)) before))
           → m₂ ≡ sets outs at (words_of (span_rows (items_of voice s) (span_at spans (letters ! i)) before))
           → (standing : Standing) → standing ≡ standing_at at before
           → Writing l m m₁ m₂ (set standings (letters ! i) standing) (at + (span_at spans (letters ! i)).messages) (before + (span_at spans (letters ! i)).lasts) (i + 1)
       unfolding steps_of words_of
-      write-turns m₁ m₂ p q standing r =
-          let many = rows_many voice s before span w.reads write-playable in
-          let long₁ : length m₁ ≡ length out = ap length p ∙ length-sets out at (steps_of here-rows) in
-          let long₂ : length m₂ ≡ length outs = ap length q ∙ length-sets outs at (words_of here-rows) in
+      write_turns m₁ m₂ p q standing r =
+          let many = rows_many voice s before span w.reads write_playable in
+          let long₁ : length m₁ ≡ length out = ap length p ∙ length-sets out at (steps_of here_rows) in
+          let long₂ : length m₂ ≡ length outs = ap length q ∙ length-sets outs at (words_of here_rows) in
           record {
             bytes = w.bytes;
             reads = w.reads;
@@ -218,36 +218,36 @@ module _ (voice : Voice) (s : List ℕ) (spans : List Span) (letters : List ℕ)
             known = λ slot. rw (p, q) (known_next slot standing r);
             listed = w.listed;
             within = omega arith;
-            fits = omega (arith, w.fits, messages-next);
-            early = omega (arith, w.early, lasts-next);
+            fits = omega (arith, w.fits, messages_next);
+            early = omega (arith, w.early, lasts_next);
             same_steps = long₁ ∙ w.same_steps;
             same_words = long₂ ∙ w.same_words;
-            room_steps = omega (arith, w.room_steps, messages-next, long₁);
-            room_words = omega (arith, w.room_words, messages-next, long₂);
+            room_steps = omega (arith, w.room_steps, messages_next, long₁);
+            room_words = omega (arith, w.room_words, messages_next, long₂);
             steps =
-                column_stored (λ row. row.step) out m₁ at span.messages here-rows later_rows p many
+                column_stored (λ row. row.step) out m₁ at span.messages here_rows later_rows p many
                 ∙ ap (λ (rows : List (At Event)). sets out at (steps_of rows)) (sym rows_next)
                 ∙ w.steps;
             words =
-                column_stored (λ row. word_of row.event) outs m₂ at span.messages here-rows later_rows q many
+                column_stored (λ row. word_of row.event) outs m₂ at span.messages here_rows later_rows q many
                 ∙ ap (λ (rows : List (At Event)). sets outs at (words_of rows)) (sym rows_next)
                 ∙ w.words;
           }
 
 pub ruleset writing = (
-  write-steps,
-  write-words,
-  write-slot,
-  write-slot-fits,
-  write-offset-fits,
-  write-standing-fits,
-  write-playable,
-  write-early,
+  write_steps,
+  write_words,
+  write_slot,
+  write_slot_fits,
+  write_offset_fits,
+  write_standing_fits,
+  write_playable,
+  write_early,
   write_known,
-  write-room-steps,
-  write-room-words,
-  write-at-fits,
-  write-before-fits,
-  write-nears,
-  write-turns,
+  write_room_steps,
+  write_room_words,
+  write_at_fits,
+  write_before_fits,
+  write_nears,
+  write_turns,
 )

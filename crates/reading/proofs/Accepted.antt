@@ -100,8 +100,8 @@ met_is s end at (Is id size n) chunk next a e =
     let same : one ≡ chunk = cc in
     let on : n ≡ next = cc in
     let size_is : size ≡ chunk.size = ap (λ (c : Chunk). c.size) same in
-    let placed-is : one ≡ placed s at chunk.size = rw (a.0, size_is) in
-    (sym (ap (λ (c : Chunk). c.place) same), omega arith, omega arith, sym same ∙ placed-is)
+    let placed_is : one ≡ placed s at chunk.size = rw (a.0, size_is) in
+    (sym (ap (λ (c : Chunk). c.place) same), omega arith, omega arith, sym same ∙ placed_is)
 met_is s end at Cut chunk next a e = let z : ◌≡◌ {A = ℕ} 0 1 = cc in absurd (omega arith)
 
 pub stands_first : (s : List ℕ) (end at : ℕ) (chunk : Chunk) (next : ℕ) → at ≤ end → chunk_step s end at ≡ met chunk next

@@ -17,7 +17,7 @@ use Rattle.chunks.specs.Kept.{chunks_in}
 use Rattle.model.proofs.Walks.{Stand, fine_found}
 use Rattle.model.proofs.Stores.{sets_append}
 use Rattle.chunks.proofs.Lists.{ChunkAhead, chunk_ahead}
-use Rattle.chunks.proofs.Searches.{list_stands, none_left, never-cut, first-left}
+use Rattle.chunks.proofs.Searches.{list_stands, none_left, never_cut, first_left}
 use Rattle.reading.specs.Stages.{placed, parts_by}
 use Rattle.reading.proofs.Accepted.{each_fine, each_none, OpenedAs, opened_as}
 use Rattle.reading.proofs.Filling.{numbers_append, numbers_many}
@@ -78,29 +78,29 @@ module _ (s : List ℕ) (end : ℕ) (l out : List ℕ) (row at : ℕ) (f : Rowin
   unfolding rows_from numbers_of
   row_ends past =
       let none = none_left s end at f.within f.rest f.stand past in
-      let no-tops = each_none (top_of s) f.tops (ap (each (top_of s)) (sym none) ∙ f.all) in
-      ap (λ (tops : List Top). sets out (4 * row) (numbers_of (rows_from row tops))) (sym no-tops) ∙ f.whole
+      let no_tops = each_none (top_of s) f.tops (ap (each (top_of s)) (sym none) ∙ f.all) in
+      ap (λ (tops : List Top). sets out (4 * row) (numbers_of (rows_from row tops))) (sym no_tops) ∙ f.whole
 
   module _ (r : ReadChunk) (here : at < end) (is : r ≡ read_chunk s end at) where
-    pub row-never : r ≡ Cut → out ≡ sets l 4 (numbers_of (rows_from 1 (found (each (top_of s) (found (chunks_in s 8 end))))))
-    row-never e = absurd (never-cut s end at f.within r is f.rest here f.stand e)
+    pub row_never : r ≡ Cut → out ≡ sets l 4 (numbers_of (rows_from 1 (found (each (top_of s) (found (chunks_in s 8 end))))))
+    row_never e = absurd (never_cut s end at f.within r is f.rest here f.stand e)
 
     module _ (id size next : ℕ) (e : r ≡ Is id size next) where
       ahead : ChunkAhead s end at (Is id size next)
       ahead = subst (ChunkAhead s end at) (sym is ∙ e) (chunk_ahead s end at f.within)
 
-      pub row-there : at + 8 + size ≤ length s
-      row-there = let a = ahead in omega (arith, f.inside)
+      pub row_there : at + 8 + size ≤ length s
+      row_there = let a = ahead in omega (arith, f.inside)
 
       pub row_low : row ≤ 65536
       row_low = omega (arith, f.low, f.within, f.inside, f.small)
 
-      pub row-nears : end - next < end - at
-      row-nears = let a = ahead in omega arith
+      pub row_nears : end - next < end - at
+      row_nears = let a = ahead in omega arith
 
       left : (rest : List Chunk) × (f.rest ≡ placed s at size ∷ rest) × Stand end (chunk_step s end) next rest
       left =
-          let l = first-left s end at f.within r is f.rest id size next here f.stand e in
+          let l = first_left s end at f.within r is f.rest id size next here f.stand e in
           (l.0, l.1 ∙ ap (λ (n : ℕ). record { id = n; place = at; size = size } ∷ l.0) ahead.0, l.2)
 
       abbrev First : Type 0
@@ -114,39 +114,39 @@ module _ (s : List ℕ) (end : ℕ) (l out : List ℕ) (row at : ℕ) (f : Rowin
       row_fine = ap is_fine first.2
 
       -- the rows of the chunk, and those after them
-      abbrev here-rows : List Row
-      here-rows = rows_by row (placed s at size) (top_of s (placed s at size))
+      abbrev here_rows : List Row
+      here_rows = rows_by row (placed s at size) (top_of s (placed s at size))
 
       abbrev after : ℕ
       after = row + 1 + length (parts_by (top_of s (placed s at size)))
 
-      here-many : row + length here-rows ≡ after
-      here-many = omega (arith, length-map (parts_by (top_of s (placed s at size))) (row_in row))
+      here_many : row + length here_rows ≡ after
+      here_many = omega (arith, length-map (parts_by (top_of s (placed s at size))) (row_in row))
 
-      split : rows_from row f.tops ≡ here-rows ++ rows_from after first.1
+      split : rows_from row f.tops ≡ here_rows ++ rows_from after first.1
       split =
           ap (rows_from row) first.4 ∙ rows_first row (placed s at size) first.0 first.1 (same_chunk s (placed s at size) first.0 (opened_as s (placed s at size) first.0 first.2))
           ∙ ap (λ (c : Checked Top). rows_by row (placed s at size) c ++ rows_from (row + 1 + length (parts_by c)) first.1) (sym first.2)
 
-      many : length (rows_from row f.tops) ≡ length here-rows + length (rows_from after first.1)
-      many = ap length split ∙ length-append here-rows (rows_from after first.1)
+      many : length (rows_from row f.tops) ≡ length here_rows + length (rows_from after first.1)
+      many = ap length split ∙ length-append here_rows (rows_from after first.1)
 
       pub row_room : 4 * (row + 1 + length (parts_by (top_of s (placed s at size)))) ≤ length out
-      row_room = omega (arith, many, here-many, f.room)
+      row_room = omega (arith, many, here_many, f.room)
 
       pub row_turns : (m : List ℕ) (n : ℕ) → n ≡ row + 1 + length (parts_by (top_of s (placed s at size)))
           → m ≡ sets out (4 * row) (numbers_of (row_in 0 (placed s at size) ∷ map (row_in row) (parts_by (top_of s (placed s at size)))))
           → length m ≡ length out → Rowing s end l m n next
       row_turns m n count q kept =
           let a = ahead in
-          let past : 4 * after ≡ 4 * row + length (numbers_of here-rows) = omega (arith, here-many, numbers_many here-rows) in
+          let past : 4 * after ≡ 4 * row + length (numbers_of here_rows) = omega (arith, here_many, numbers_many here_rows) in
           let stored : sets m (4 * n) (numbers_of (rows_from n first.1)) ≡ sets out (4 * row) (numbers_of (rows_from row f.tops)) =
           ap (λ (k : ℕ). sets m (4 * k) (numbers_of (rows_from k first.1))) count
           ∙ ap (λ (x : List ℕ). sets x (4 * after) (numbers_of (rows_from after first.1))) q
-          ∙ ap (λ (k : ℕ). sets (sets out (4 * row) (numbers_of here-rows)) k (numbers_of (rows_from after first.1))) past
-          ∙ sets_append out (4 * row) (numbers_of here-rows) (numbers_of (rows_from after first.1))
-          ∙ ap (sets out (4 * row)) (sym (numbers_append here-rows (rows_from after first.1)) ∙ ap numbers_of (sym split)) in
-          let enough : 4 * (after + length (rows_from after first.1)) ≤ length m = omega (arith, many, here-many, f.room) in
+          ∙ ap (λ (k : ℕ). sets (sets out (4 * row) (numbers_of here_rows)) k (numbers_of (rows_from after first.1))) past
+          ∙ sets_append out (4 * row) (numbers_of here_rows) (numbers_of (rows_from after first.1))
+          ∙ ap (sets out (4 * row)) (sym (numbers_append here_rows (rows_from after first.1)) ∙ ap numbers_of (sym split)) in
+          let enough : 4 * (after + length (rows_from after first.1)) ≤ length m = omega (arith, many, here_many, f.room) in
           record {
             rest = left.0;
             tops = first.1;
@@ -161,4 +161,4 @@ module _ (s : List ℕ) (end : ℕ) (l out : List ℕ) (row at : ℕ) (f : Rowin
             whole = stored ∙ f.whole;
           }
 
-pub ruleset rowing = (row_starts, row_kept, row_ends, row-never, row-there, row_low, row-nears, row_fine, row_room, row_turns)
+pub ruleset rowing = (row_starts, row_kept, row_ends, row_never, row_there, row_low, row_nears, row_fine, row_room, row_turns)

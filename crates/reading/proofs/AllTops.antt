@@ -20,7 +20,7 @@ use Rattle.model.specs.declared.Counted.TheVariants as counted
 use Rattle.chunks.specs.Kept.{chunks_in}
 use Rattle.model.proofs.Walks.{Stand}
 use Rattle.chunks.proofs.Lists.{ChunkAhead, chunk_ahead}
-use Rattle.chunks.proofs.Searches.{list_stands, none_left, never-cut, first-left}
+use Rattle.chunks.proofs.Searches.{list_stands, none_left, never_cut, first_left}
 use Rattle.reading.specs.Stages.{placed, top_rows, tops_rows, top_answer, tops_answer, Few}
 
 -- the answer when so many rows are counted and the rest is checked
@@ -92,22 +92,22 @@ module _ (s : List ℕ) (start end rows at : ℕ) (t : Topping s start end rows 
       sym (onto_nil rows) ∙ ap (λ (chunks : List Chunk). onto rows (each (top_of s) chunks)) (sym (none_left s end at t.within t.rest t.stand past)) ∙ t.same
 
   module _ (r : ReadChunk) (here : at < end) (is : r ≡ read_chunk s end at) where
-    pub tops-never : r ≡ Cut → counted.Rows rows ≡ tops_answer (each (top_of s) (found (chunks_in s start end)))
-    tops-never e = absurd (never-cut s end at t.within r is t.rest here t.stand e)
+    pub tops_never : r ≡ Cut → counted.Rows rows ≡ tops_answer (each (top_of s) (found (chunks_in s start end)))
+    tops_never e = absurd (never_cut s end at t.within r is t.rest here t.stand e)
 
     module _ (id size next : ℕ) (e : r ≡ Is id size next) where
       ahead : ChunkAhead s end at (Is id size next)
       ahead = subst (ChunkAhead s end at) (sym is ∙ e) (chunk_ahead s end at t.within)
 
-      pub tops-there : at + 8 + size ≤ length s
-      tops-there = let a = ahead in omega (arith, t.inside)
+      pub tops_there : at + 8 + size ≤ length s
+      tops_there = let a = ahead in omega (arith, t.inside)
 
-      pub tops-near : end - next < end - at
-      tops-near = let a = ahead in omega arith
+      pub tops_near : end - next < end - at
+      tops_near = let a = ahead in omega arith
 
       left : (rest : List Chunk) × (onto rows (each (top_of s) (placed s at size ∷ rest)) ≡ tops_answer (each (top_of s) (found (chunks_in s start end)))) × Stand end (chunk_step s end) next rest
       left =
-          let l = first-left s end at t.within r is t.rest id size next here t.stand e in (
+          let l = first_left s end at t.within r is t.rest id size next here t.stand e in (
             l.0,
             ap (λ (n : ℕ). onto rows (each (top_of s) (record { id = n; place = at; size = size } ∷ l.0))) (sym ahead.0)
                 ∙ ap (λ (chunks : List Chunk). onto rows (each (top_of s) chunks)) (sym l.1) ∙ t.same,
@@ -115,12 +115,12 @@ module _ (s : List ℕ) (start end rows at : ℕ) (t : Topping s start end rows 
           )
 
       module _ (answer : Counted) (p : answer ≡ top_answer (top_of s (placed s at size))) where
-        pub tops-refused : (number place : ℕ) → answer ≡ counted.Refused number place
+        pub tops_refused : (number place : ℕ) → answer ≡ counted.Refused number place
             → counted.Refused number place ≡ tops_answer (each (top_of s) (found (chunks_in s start end)))
-        tops-refused number place q = let l = left in onto_refused s rows (placed s at size) l.0 number place (sym p ∙ q) ∙ l.1
+        tops_refused number place q = let l = left in onto_refused s rows (placed s at size) l.0 number place (sym p ∙ q) ∙ l.1
 
-        pub tops-turn : (count : ℕ) → answer ≡ counted.Rows count → Few answer → Topping s start end (rows + count) next
-        tops-turn count q few =
+        pub tops_turn : (count : ℕ) → answer ≡ counted.Rows count → Few answer → Topping s start end (rows + count) next
+        tops_turn count q few =
             let a = ahead in
             let l = left in
             let small : count ≤ 65537 = subst Few q few in
@@ -140,4 +140,4 @@ module _ (s : List ℕ) (start end rows at : ℕ) (t : Topping s start end rows 
             let small : count ≤ 65537 = subst Few q few in
             record { fits = omega (arith, t.few, t.within, t.inside, t.small) }
 
-pub ruleset topping = (tops_start, tops_end, tops-never, tops-there, tops-near, tops-refused, tops-turn, tops_fit)
+pub ruleset topping = (tops_start, tops_end, tops_never, tops_there, tops_near, tops_refused, tops_turn, tops_fit)

@@ -66,12 +66,12 @@ module _ (s : List ℕ) (ok : is_fine (contents_of s) ≡ true) where
       ∙ ap (λ (c : Checked (List Top)). row_in 0 (chunk_at s 0) ∷ rows_from 1 (found c)) (sym accepted_tops)
 
   module _ (l : List ℕ) (room : 4 * length (file_rows (contents_of s)) ≤ length l) where
-    pub file-own-room : 4 ≤ length l
-    file-own-room = omega (arith, ap length rows_are)
+    pub file_own_room : 4 ≤ length l
+    file_own_room = omega (arith, ap length rows_are)
 
-    pub file-room : (m : List ℕ) → length m ≡ length l
+    pub file_room : (m : List ℕ) → length m ≡ length l
         → 4 * (1 + length (rows_from 1 (found (each (top_of s) (found (chunks_in s 8 (length s - 2))))))) ≤ length m
-    file-room m kept = omega (arith, ap length rows_are)
+    file_room m kept = omega (arith, ap length rows_are)
 
   pub file_filled : (l m out : List ℕ) (id size : ℕ) → id ≡ number 4 s 0 → size ≡ number 4 s 4 → m ≡ sets l 0 (row_numbers id 0 size 0)
       → out ≡ sets m 4 (numbers_of (rows_from 1 (found (each (top_of s) (found (chunks_in s 8 (length s - 2)))))))
@@ -97,4 +97,4 @@ module _ (s : List ℕ) (ok : is_fine (contents_of s) ≡ true) where
       ∙ ap (λ (f : Checked File). read.Rows (length (file_rows f)) accepted.0.code accepted.0.matches) e
       ∙ ap read_answer (sym e)
 
-pub ruleset file_rows_lem = (accepted_two, accepted_four, accepted_eight, accepted_front, accepted_code, accepted_from, accepted_list, accepted_all, file-own-room, file-room, file_filled, file_told, front_length)
+pub ruleset file_rows_lem = (accepted_two, accepted_four, accepted_eight, accepted_front, accepted_code, accepted_from, accepted_list, accepted_all, file_own_room, file_room, file_filled, file_told, front_length)

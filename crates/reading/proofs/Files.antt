@@ -77,36 +77,36 @@ module _ (s : List ℕ) (r : Check) (is : r ≡ check_answer (frame_of s)) where
   file_frame_refused number place e = sym (rw (answer_refused _ number place (sym is ∙ e)))
 
   module _ (passes : r ≡ check.Passed) where
-    a-frame : (chunks : List Chunk) × (frame_of s ≡ fine chunks)
-    a-frame = fine_some (frame_of s) (answer_passed _ (sym is ∙ passes))
+    a_frame : (chunks : List Chunk) × (frame_of s ≡ fine chunks)
+    a_frame = fine_some (frame_of s) (answer_passed _ (sym is ∙ passes))
 
-    file-long : 10 ≤ length s
-    file-long = long_enough s a-frame.0 a-frame.1
+    file_long : 10 ≤ length s
+    file_long = long_enough s a_frame.0 a_frame.1
 
-    pub file-two : 2 ≤ length s
-    file-two = let h = file-long in omega arith
+    pub file_two : 2 ≤ length s
+    file_two = let h = file_long in omega arith
 
-    pub file-from : 8 ≤ length s - 2
-    file-from = let h = file-long in omega arith
+    pub file_from : 8 ≤ length s - 2
+    file_from = let h = file_long in omega arith
 
-    pub file-fine : is_fine (chunks_in s 8 (length s - 2)) ≡ true
+    pub file_fine : is_fine (chunks_in s 8 (length s - 2)) ≡ true
     unfolding is_fine
-    file-fine = ap is_fine (frame_chunks s a-frame.0 a-frame.1)
+    file_fine = ap is_fine (frame_chunks s a_frame.0 a_frame.1)
 
     module _ (answer : Counted) (q : answer ≡ tops_answer (each (top_of s) (found (chunks_in s 8 (length s - 2))))) where
       told : more answer ≡ file_answer (contents_of s)
       unfolding found
       told =
-          ap more (q ∙ ap (λ (c : Checked (List Chunk)). tops_answer (each (top_of s) (found c))) (frame_chunks s a-frame.0 a-frame.1))
-          ∙ file_rows_lem s a-frame.0 (each (top_of s) a-frame.0) a-frame.1 refl
+          ap more (q ∙ ap (λ (c : Checked (List Chunk)). tops_answer (each (top_of s) (found c))) (frame_chunks s a_frame.0 a_frame.1))
+          ∙ file_rows_lem s a_frame.0 (each (top_of s) a_frame.0) a_frame.1 refl
 
       pub file_refused : (number place : ℕ) → answer ≡ counted.Refused number place → counted.Refused number place ≡ file_answer (contents_of s)
       file_refused number place e = ap more (sym e) ∙ told
 
-      pub file-counted : (count : ℕ) → answer ≡ counted.Rows count → counted.Rows (1 + count) ≡ file_answer (contents_of s)
-      file-counted count e = ap more (sym e) ∙ told
+      pub file_counted : (count : ℕ) → answer ≡ counted.Rows count → counted.Rows (1 + count) ≡ file_answer (contents_of s)
+      file_counted count e = ap more (sym e) ∙ told
 
-pub ruleset files = (file_frame_refused, file-two, file-from, file-fine, file_refused, file-counted)
+pub ruleset files = (file_frame_refused, file_two, file_from, file_fine, file_refused, file_counted)
 
 pub count_fits : (answer : Counted) (count : ℕ) → answer ≡ counted.Rows count → Countable answer → Fits w64 (1 + count)
 count_fits answer count e h = let small : count ≤ 4295032832 = subst Countable e h in record { fits = omega arith }

@@ -19,7 +19,7 @@ use Rattle.chunks.specs.Kept.{chunks_in}
 use Rattle.model.proofs.Walks.{Stand}
 use Rattle.model.proofs.Stores.{sets_append}
 use Rattle.chunks.proofs.Lists.{ChunkAhead, chunk_ahead}
-use Rattle.chunks.proofs.Searches.{list_stands, none_left, never-cut, first-left}
+use Rattle.chunks.proofs.Searches.{list_stands, none_left, never_cut, first_left}
 use Rattle.reading.specs.Stages.{row_numbers}
 
 pub numbers_append : (one two : List Row) → numbers_of (one ++ two) ≡ numbers_of one ++ numbers_of two
@@ -80,49 +80,49 @@ module _ (s : List ℕ) (start end container : ℕ) (l out : List ℕ) (k row at
     nothing : f.rest ≡ []
     nothing = none_left s end at f.within f.rest f.stand past
 
-    pub fill-counts : row ≡ k + length (found (chunks_in s start end))
-    fill-counts = sym (add-zero row) ∙ ap (λ (chunks : List Chunk). row + length chunks) (sym nothing) ∙ f.many
+    pub fill_counts : row ≡ k + length (found (chunks_in s start end))
+    fill_counts = sym (add-zero row) ∙ ap (λ (chunks : List Chunk). row + length chunks) (sym nothing) ∙ f.many
 
-    pub fill-ends : out ≡ sets l (4 * k) (numbers_of (map (row_in container) (found (chunks_in s start end))))
+    pub fill_ends : out ≡ sets l (4 * k) (numbers_of (map (row_in container) (found (chunks_in s start end))))
     unfolding numbers_of
-    fill-ends = ap (λ (chunks : List Chunk). sets out (4 * row) (numbers_of (map (row_in container) chunks))) (sym nothing) ∙ f.whole
+    fill_ends = ap (λ (chunks : List Chunk). sets out (4 * row) (numbers_of (map (row_in container) chunks))) (sym nothing) ∙ f.whole
 
   module _ (r : ReadChunk) (here : at < end) (is : r ≡ read_chunk s end at) where
-    fill-never : r ≡ Cut → ⊥
-    fill-never e = never-cut s end at f.within r is f.rest here f.stand e
+    fill_never : r ≡ Cut → ⊥
+    fill_never e = never_cut s end at f.within r is f.rest here f.stand e
 
-    pub fill-never-counts : r ≡ Cut → row ≡ k + length (found (chunks_in s start end))
-    fill-never-counts e = absurd (fill-never e)
+    pub fill_never_counts : r ≡ Cut → row ≡ k + length (found (chunks_in s start end))
+    fill_never_counts e = absurd (fill_never e)
 
-    pub fill-never-ends : r ≡ Cut → out ≡ sets l (4 * k) (numbers_of (map (row_in container) (found (chunks_in s start end))))
-    fill-never-ends e = absurd (fill-never e)
+    pub fill_never_ends : r ≡ Cut → out ≡ sets l (4 * k) (numbers_of (map (row_in container) (found (chunks_in s start end))))
+    fill_never_ends e = absurd (fill_never e)
 
     module _ (id size next : ℕ) (e : r ≡ Is id size next) where
       ahead : ChunkAhead s end at (Is id size next)
       ahead = subst (ChunkAhead s end at) (sym is ∙ e) (chunk_ahead s end at f.within)
 
       left : (rest : List Chunk) × (f.rest ≡ record { id = id; place = at; size = size } ∷ rest) × Stand end (chunk_step s end) next rest
-      left = first-left s end at f.within r is f.rest id size next here f.stand e
+      left = first_left s end at f.within r is f.rest id size next here f.stand e
 
       more : length f.rest ≡ 1 + length left.0
       more = omega (arith, ap length left.1)
 
-      pub fill-nears : end - next < end - at
-      fill-nears = let a = ahead in omega arith
+      pub fill_nears : end - next < end - at
+      fill_nears = let a = ahead in omega arith
 
-      pub fill-place : Fits w32 at
-      fill-place = record { fits = omega (arith, f.within, f.small) }
+      pub fill_place : Fits w32 at
+      fill_place = record { fits = omega (arith, f.within, f.small) }
 
-      pub fill-size : Fits w32 size
-      fill-size = let a = ahead in record { fits = omega (arith, f.small) }
+      pub fill_size : Fits w32 size
+      fill_size = let a = ahead in record { fits = omega (arith, f.small) }
 
-      pub fill-room : 4 * row + 4 ≤ length out
-      fill-room = omega (arith, more, f.room)
+      pub fill_room : 4 * row + 4 ≤ length out
+      fill_room = omega (arith, more, f.room)
 
-      pub fill-turns : (m : List ℕ) → m ≡ sets out (4 * row) (row_numbers id at size container) → length m ≡ length out
+      pub fill_turns : (m : List ℕ) → m ≡ sets out (4 * row) (row_numbers id at size container) → length m ≡ length out
           → Filling s start end container l m k (row + 1) next
       unfolding row_in
-      fill-turns m q kept =
+      fill_turns m q kept =
           let a = ahead in
           record {
             rest = left.0;
@@ -140,4 +140,4 @@ module _ (s : List ℕ) (start end container : ℕ) (l out : List ℕ) (k row at
                 ∙ f.whole;
           }
 
-pub ruleset fills = (fill_starts, fill_kept, fill-counts, fill-ends, fill-never-counts, fill-never-ends, fill-nears, fill-place, fill-size, fill-room, fill-turns)
+pub ruleset fills = (fill_starts, fill_kept, fill_counts, fill_ends, fill_never_counts, fill_never_ends, fill_nears, fill_place, fill_size, fill_room, fill_turns)

@@ -28,7 +28,7 @@ use Rattle.model.proofs.Tests.{by_test, if_true, if_false}
 use Rattle.model.proofs.Walks.{Stand}
 use Rattle.chunks.specs.Kept.{chunks_in}
 use Rattle.chunks.proofs.Lists.{ChunkAhead, chunk_ahead}
-use Rattle.chunks.proofs.Searches.{none_left, never-cut, first-left}
+use Rattle.chunks.proofs.Searches.{none_left, never_cut, first_left}
 use Rattle.reading.specs.Stages.{placed, voice_answer, top_rows, top_answer, tops_of, top_at, found_top, found_track}
 use Rattle.reading.proofs.TrackMade.{track_made}
 use Rattle.reading.proofs.OneTop.{voice_is_refused, voice_is_closed, voice_is_opened, top_closed}
@@ -73,20 +73,20 @@ module _ (s : List ℕ) (place size : ℕ) (ok : is_fine (top_of s (placed s pla
   rows_closed e = top_closed s place size r is e
 
   module _ (v : Voice) (e : r ≡ voice.Opened v) where
-    pub rows-from : place + 8 + 6 ≤ place + 8 + size
-    rows-from = let t = a_track v e in let h = fixed_inside s v (placed s place size) t.0 t.1 in omega arith
+    pub rows_from : place + 8 + 6 ≤ place + 8 + size
+    rows_from = let t = a_track v e in let h = fixed_inside s v (placed s place size) t.0 t.1 in omega arith
 
     parts_are : chunks_in s (place + 8 + 6) (place + 8 + size) ≡ fine (a_track v e).0.parts
     parts_are = let t = a_track v e in parts_read s v (placed s place size) t.0 t.1
 
-    pub rows-fine : is_fine (chunks_in s (place + 8 + 6) (place + 8 + size)) ≡ true
+    pub rows_fine : is_fine (chunks_in s (place + 8 + 6) (place + 8 + size)) ≡ true
     unfolding is_fine
-    rows-fine = ap is_fine parts_are
+    rows_fine = ap is_fine parts_are
 
-    pub rows-opened : (n : ℕ) → n ≡ length (found (chunks_in s (place + 8 + 6) (place + 8 + size)))
+    pub rows_opened : (n : ℕ) → n ≡ length (found (chunks_in s (place + 8 + 6) (place + 8 + size)))
         → counted.Rows (1 + n) ≡ top_answer (top_of s (placed s place size))
     unfolding top_answer top_rows parts_of found
-    rows-opened n h =
+    rows_opened n h =
         ap (λ (k : ℕ). counted.Rows (1 + k)) (h ∙ ap (λ (c : Checked (List Chunk)). length (found c)) parts_are) ∙ sym (ap top_answer (a_track v e).2)
 
   -- the track that it is
@@ -105,7 +105,7 @@ module _ (s : List ℕ) (place size : ℕ) (ok : is_fine (top_of s (placed s pla
       sym (ap (λ (w : Voice). At w place size) (track_made s v (placed s place size) t.0 t.1).voiced)
       ∙ sym (ap (λ (c : Checked Top). found_track (found_top c)) t.2)
 
-pub ruleset row_Counts = (rows_refused, rows_closed, rows-opened)
+pub ruleset row_Counts = (rows_refused, rows_closed, rows_opened)
 
 pub ruleset top_tracks = (track_refused, track_closed, track_opened)
 
@@ -164,24 +164,24 @@ module _ (s : List ℕ) (row end k at : ℕ) (w : Finding s row end k at) where
       ap found_track (sym (ap (top_at row k) none_there) ∙ w.same)
 
   module _ (r : ReadChunk) (here : at < end) (is : r ≡ read_chunk s end at) where
-    pub find-never : r ≡ Cut → Nowhere ≡ found_track (top_at row 1 (tops_of (contents_of s)))
-    find-never e = absurd (never-cut s end at w.within r is w.rest here w.stand e)
+    pub find_never : r ≡ Cut → Nowhere ≡ found_track (top_at row 1 (tops_of (contents_of s)))
+    find_never e = absurd (never_cut s end at w.within r is w.rest here w.stand e)
 
     module _ (id size next : ℕ) (e : r ≡ Is id size next) where
       ahead : ChunkAhead s end at (Is id size next)
       ahead = subst (ChunkAhead s end at) (sym is ∙ e) (chunk_ahead s end at w.within)
 
-      pub find-there : at + 8 + size ≤ length s
-      find-there = let a = ahead in omega (arith, w.inside)
+      pub find_there : at + 8 + size ≤ length s
+      find_there = let a = ahead in omega (arith, w.inside)
 
-      pub find-nears : end - next < end - at
-      find-nears = let a = ahead in omega arith
+      pub find_nears : end - next < end - at
+      find_nears = let a = ahead in omega arith
 
       -- the chunk at the place is the first of those that are left
-      first-top : (rest : List Chunk) × (top : Top) × (tops : List Top) × Stand end (chunk_step s end) next rest × (each (top_of s) rest ≡ fine tops)
+      first_top : (rest : List Chunk) × (top : Top) × (tops : List Top) × Stand end (chunk_step s end) next rest × (each (top_of s) rest ≡ fine tops)
           × (top_of s (placed s at size) ≡ fine top) × (top_at row k (top ∷ tops) ≡ top_at row 1 (tops_of (contents_of s)))
-      first-top =
-          let l = first-left s end at w.within r is w.rest id size next here w.stand e in
+      first_top =
+          let l = first_left s end at w.within r is w.rest id size next here w.stand e in
           let o = each_fine (top_of s) (record { id = id; place = at; size = size }) l.0 w.tops
           (subst (λ (chunks : List Chunk). each (top_of s) chunks ≡ fine w.tops) l.1 w.opens) in (
             l.0,
@@ -193,23 +193,23 @@ module _ (s : List ℕ) (row end k at : ℕ) (w : Finding s row end k at) where
             ap (top_at row k) (sym o.4) ∙ w.same,
           )
 
-      pub find-fine : is_fine (top_of s (placed s at size)) ≡ true
+      pub find_fine : is_fine (top_of s (placed s at size)) ≡ true
       unfolding is_fine
-      find-fine = ap is_fine first-top.5
+      find_fine = ap is_fine first_top.5
 
-      pub find-hits : (answer : FoundTrack) → k ≡ row → answer ≡ found_track (found_top (top_of s (placed s at size)))
+      pub find_hits : (answer : FoundTrack) → k ≡ row → answer ≡ found_track (found_top (top_of s (placed s at size)))
           → answer ≡ found_track (top_at row 1 (tops_of (contents_of s)))
       unfolding found_top
-      find-hits answer h a =
-          let f = first-top in
+      find_hits answer h a =
+          let f = first_top in
           a ∙ ap (λ (c : Checked Top). found_track (found_top c)) f.5 ∙ ap found_track (top_hit row k f.1 f.2 h ∙ f.6)
 
       module _ (count : ℕ) (c : counted.Rows count ≡ top_answer (top_of s (placed s at size))) (low : count ≤ 65537) where
-        pub find-misses : (k ≡ row → ⊥) → Finding s row end (k + count) next
+        pub find_misses : (k ≡ row → ⊥) → Finding s row end (k + count) next
         unfolding top_answer
-        find-misses h =
+        find_misses h =
             let a = ahead in
-            let f = first-top in
+            let f = first_top in
             let q = c ∙ ap top_answer f.5 in
             let n : count ≡ top_rows f.1 = cc in
             record {
@@ -224,10 +224,10 @@ module _ (s : List ℕ) (row end k at : ℕ) (w : Finding s row end k at) where
               same = ap (λ (m : ℕ). top_at row (k + m) f.2) n ∙ top_miss row k f.1 f.2 h ∙ f.6;
             }
 
-        pub find-fits : Fits w64 (k + count)
-        find-fits = record { fits = omega (arith, w.few, w.within, w.inside, w.small) }
+        pub find_fits : Fits w64 (k + count)
+        find_fits = record { fits = omega (arith, w.few, w.within, w.inside, w.small) }
 
-pub ruleset finding = (find_long, find_starts, find_ends, find-never, find-there, find-nears, find-fine, find-hits, find-misses, find-fits)
+pub ruleset finding = (find_long, find_starts, find_ends, find_never, find_there, find_nears, find_fine, find_hits, find_misses, find_fits)
 
 -- WHAT THE ANSWER SAYS of the file
 
@@ -274,10 +274,10 @@ top_stands s row end k at (chunk ∷ chunks) tops top within st e h =
 same_track : (s : List ℕ) (v w : Voice) (place size p n : ℕ) (chunk : Chunk) (track : Track) → At v place size ≡ At track.voice chunk.place chunk.size
     → chunk ≡ placed s p n → track_of s w (placed s p n) ≡ fine track → (track_of s v (placed s place size) ≡ fine track) × (place ≡ p) × (size ≡ n)
 same_track s v w place size p n chunk track both there e =
-    let voice-is : v ≡ track.voice = cc in
+    let voice_is : v ≡ track.voice = cc in
     let place_is : place ≡ chunk.place = cc in
     let size_is : size ≡ chunk.size = cc in
-    let voices : v ≡ w = voice-is ∙ (track_made s w (placed s p n) track e).voiced in
+    let voices : v ≡ w = voice_is ∙ (track_made s w (placed s p n) track e).voiced in
     let places : place ≡ p = place_is ∙ ap (λ (c : Chunk). c.place) there in
     let sizes : size ≡ n = size_is ∙ ap (λ (c : Chunk). c.size) there in
     (rw (voices, places, sizes) e, places, sizes)

@@ -21,7 +21,7 @@ use Rattle.model.specs.declared.ReadChunk.TheVariants.{Is, Cut}
 use Rattle.chunks.specs.Kept.{chunks_in}
 use Rattle.model.proofs.Answers.{answer_passed}
 use Rattle.model.proofs.Walks.{fine_found}
-use Rattle.chunks.proofs.Searches.{Remaining, remain_starts, remain-none, remain-never, remain-ahead, remain-there, remain-first, checked_chunks}
+use Rattle.chunks.proofs.Searches.{Remaining, remain_starts, remain_none, remain_never, remain_ahead, remain_there, remain_first, checked_chunks}
 use Rattle.reading.specs.Stages.{contents_hold}
 
 -- the first chunk of the list that begins at 8
@@ -32,33 +32,33 @@ module _ (s : List ℕ) (end : ℕ) (from : 8 ≤ end) (inside : end ≤ length 
 
   pub opens_empty : end ≤ 8 → false ≡ opens_with_contents (found (chunks_in s 8 end))
   unfolding opens_with_contents
-  opens_empty h = remain-none opens_with_contents s 8 end 8 starts h
+  opens_empty h = remain_none opens_with_contents s 8 end 8 starts h
 
   module _ (r : ReadChunk) (here : 8 < end) (is : r ≡ read_chunk s end 8) where
-    pub opens-never : r ≡ Cut → false ≡ opens_with_contents (found (chunks_in s 8 end))
-    opens-never e = absurd (remain-never opens_with_contents s 8 end 8 starts r here is e)
+    pub opens_never : r ≡ Cut → false ≡ opens_with_contents (found (chunks_in s 8 end))
+    opens_never e = absurd (remain_never opens_with_contents s 8 end 8 starts r here is e)
 
     module _ (id size next : ℕ) (e : r ≡ Is id size next) where
-      pub opens-there : 8 + 4 ≤ length s
-      opens-there = remain-there opens_with_contents s 8 end 8 starts r here is id size next e
+      pub opens_there : 8 + 4 ≤ length s
+      opens_there = remain_there opens_with_contents s 8 end 8 starts r here is id size next e
 
-      first-asked : (test : Bool) → (number 4 s 8 ≡? CNTI) ≡ test → (test and (5 ≤? size)) ≡ opens_with_contents (found (chunks_in s 8 end))
+      first_asked : (test : Bool) → (number 4 s 8 ≡? CNTI) ≡ test → (test and (5 ≤? size)) ≡ opens_with_contents (found (chunks_in s 8 end))
       unfolding opens_with_contents
-      first-asked test h =
-          let a = remain-ahead opens_with_contents s 8 end 8 starts r here is id size next e in
-          let f = remain-first opens_with_contents s 8 end 8 starts r here is id size next e in
+      first_asked test h =
+          let a = remain_ahead opens_with_contents s 8 end 8 starts r here is id size next e in
+          let f = remain_first opens_with_contents s 8 end 8 starts r here is id size next e in
           ap (λ (b : Bool). b and (5 ≤? size)) (sym h ∙ ap (λ (n : ℕ). n ≡? CNTI) (sym a.0)) ∙ f.1
 
       module _ (hit : Bool) (p : hit ≡ (number 4 s 8 ≡? CNTI)) where
-        pub opens-other : not hit ≡ true → false ≡ opens_with_contents (found (chunks_in s 8 end))
+        pub opens_other : not hit ≡ true → false ≡ opens_with_contents (found (chunks_in s 8 end))
         unfolding ◌and◌
-        opens-other h = first-asked false (sym p ∙ not-true hit h)
+        opens_other h = first_asked false (sym p ∙ not-true hit h)
 
-        pub opens-size : not hit ≡ false → (5 ≤? size) ≡ opens_with_contents (found (chunks_in s 8 end))
+        pub opens_size : not hit ≡ false → (5 ≤? size) ≡ opens_with_contents (found (chunks_in s 8 end))
         unfolding ◌and◌
-        opens-size h = first-asked true (sym p ∙ not-false hit h)
+        opens_size h = first_asked true (sym p ∙ not-false hit h)
 
-pub ruleset opening = (opens_empty, opens-never, opens-there, opens-other, opens-size)
+pub ruleset opening = (opens_empty, opens_never, opens_there, opens_other, opens_size)
 
 -- the file's own size, as the code reads it
 

@@ -20,7 +20,7 @@ use Rattle.model.specs.declared.ReadChunk.TheVariants.{Is, Cut}
 use Rattle.chunks.specs.Kept.{chunks_in}
 use Rattle.model.proofs.Walks.{Stand}
 use Rattle.chunks.proofs.Lists.{ChunkAhead, chunk_ahead}
-use Rattle.chunks.proofs.Searches.{list_stands, none_left, never-cut, first-left, checked_chunks}
+use Rattle.chunks.proofs.Searches.{list_stands, none_left, never_cut, first_left, checked_chunks}
 use Rattle.model.specs.File.{opened, top_of, parts_of}
 use Rattle.model.specs.declared.Check.{Check}
 use Rattle.model.specs.declared.Check.TheVariants as check
@@ -79,20 +79,20 @@ module _ (s : List ℕ) (start end count at : ℕ) (c : Counting s start end cou
   count_low = omega (arith, c.few, c.within, c.small)
 
   module _ (r : ReadChunk) (here : at < end) (is : r ≡ read_chunk s end at) where
-    pub count-never : r ≡ Cut → count ≡ length (found (chunks_in s start end))
-    count-never e = absurd (never-cut s end at c.within r is c.rest here c.stand e)
+    pub count_never : r ≡ Cut → count ≡ length (found (chunks_in s start end))
+    count_never e = absurd (never_cut s end at c.within r is c.rest here c.stand e)
 
     module _ (id size next : ℕ) (e : r ≡ Is id size next) where
       ahead : ChunkAhead s end at (Is id size next)
       ahead = subst (ChunkAhead s end at) (sym is ∙ e) (chunk_ahead s end at c.within)
 
-      pub count-nears : end - next < end - at
-      count-nears = let a = ahead in omega arith
+      pub count_nears : end - next < end - at
+      count_nears = let a = ahead in omega arith
 
-      pub count-turns : Counting s start end (count + 1) next
-      count-turns =
+      pub count_turns : Counting s start end (count + 1) next
+      count_turns =
           let a = ahead in
-          let l = first-left s end at c.within r is c.rest id size next here c.stand e in
+          let l = first_left s end at c.within r is c.rest id size next here c.stand e in
           record {
             rest = l.0;
             stand = l.2;
@@ -102,7 +102,7 @@ module _ (s : List ℕ) (start end count at : ℕ) (c : Counting s start end cou
             same = omega (arith, ap length l.1, c.same);
           }
 
-pub ruleset countings = (count_starts, count_ends, count_low, count-never, count-nears, count-turns)
+pub ruleset countings = (count_starts, count_ends, count_low, count_never, count_nears, count_turns)
 
 -- a track that is opened, and how many rows it brings
 
@@ -126,29 +126,29 @@ module _ (s : List ℕ) (voice : Voice) (place size : ℕ) (r : Check) (is : r �
       go c q = fine_some c (ap is_fine q ∙ answer_passed _ (sym is ∙ e))
 
   module _ (e : r ≡ check.Passed) where
-    pub opened-room : 6 ≤ size
+    pub opened_room : 6 ≤ size
     unfolding fixed_holds
-    opened-room =
+    opened_room =
         let f = fine_some (fixed_holds voice s (bare place size)) (track_made s voice (placed s place size) (a_track e).0 (a_track e).1).fixed in
         fixed_room voice s place size (check_answer (fixed_holds voice s (bare place size))) refl (ap check_answer f.1 ∙ passes f.0)
 
-    pub opened-from : place + 8 + 6 ≤ place + 8 + size
-    opened-from = let h = opened-room in omega arith
+    pub opened_from : place + 8 + 6 ≤ place + 8 + size
+    opened_from = let h = opened_room in omega arith
 
-    pub listed-parts : chunks_in s (place + 8 + 6) (place + 8 + size) ≡ fine (a_track e).0.parts
-    listed-parts =
-        checked_chunks (is_allowed (list.Track voice)) s (place + 8 + 6) (place + 8 + size) _ (let h = opened-room in omega arith)
+    pub listed_parts : chunks_in s (place + 8 + 6) (place + 8 + size) ≡ fine (a_track e).0.parts
+    listed_parts =
+        checked_chunks (is_allowed (list.Track voice)) s (place + 8 + 6) (place + 8 + size) _ (let h = opened_room in omega arith)
         (track_made s voice (placed s place size) (a_track e).0 (a_track e).1).listed
 
-    pub opened-fine : is_fine (chunks_in s (place + 8 + 6) (place + 8 + size)) ≡ true
+    pub opened_fine : is_fine (chunks_in s (place + 8 + 6) (place + 8 + size)) ≡ true
     unfolding is_fine
-    opened-fine = ap is_fine listed-parts
+    opened_fine = ap is_fine listed_parts
 
     pub opened_rows : (n : ℕ) → n ≡ length (found (chunks_in s (place + 8 + 6) (place + 8 + size)))
         → counted.Rows (1 + n) ≡ top_answer (opened s (placed s place size) (some voice))
     unfolding opened top_answer top_rows parts_of found ◌>>=◌
     opened_rows n h =
-        ap (λ (k : ℕ). counted.Rows (1 + k)) (h ∙ ap (λ (c : Checked (List Chunk)). length (found c)) listed-parts) ∙ sym (rw (a_track e).1)
+        ap (λ (k : ℕ). counted.Rows (1 + k)) (h ∙ ap (λ (c : Checked (List Chunk)). length (found c)) listed_parts) ∙ sym (rw (a_track e).1)
 
 pub ruleset openings = (opened_refused, opened_rows)
 

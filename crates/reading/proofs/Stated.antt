@@ -24,9 +24,9 @@ module _ (buffer : List ℕ) (n : ℕ) where
   stated_over h k = unstated (simp (le-ltb, lt-ltb))
 
   module _ (h : n ≤ length buffer) (k : n ≤ 65536) where
-    pub stated-within : file_of buffer n ≡ contents_of (take n buffer)
+    pub stated_within : file_of buffer n ≡ contents_of (take n buffer)
     unfolding file_of ◌>>◌ if◌then◌else◌ ◌or◌
-    stated-within = simp le-ltb
+    stated_within = simp le-ltb
 
     pub stated_small : length (take n buffer) ≤ 65536
     stated_small = simp length-take (omega arith)

@@ -24,7 +24,7 @@ use Rattle.model.proofs.Walks.{GoesOn, Stand}
 use Rattle.chunks.proofs.Lists.{chunk_goes}
 use Rattle.chunks.proofs.Searches.{list_stands}
 use Rattle.reading.specs.Stages.{placed, row_numbers, voice_answer, parts_by}
-use Rattle.reading.proofs.OneTop.{passes, id_free, opened-from, opened-fine, a_track, listed-parts, voice_is_opened, voice_is_closed, voice_is_refused}
+use Rattle.reading.proofs.OneTop.{passes, id_free, opened_from, opened_fine, a_track, listed_parts, voice_is_opened, voice_is_closed, voice_is_refused}
 use Rattle.reading.proofs.Filling.{row_first}
 
 module _ (s : List ℕ) (place size : ℕ) (ok : is_fine (top_of s (placed s place size)) ≡ true)
@@ -38,55 +38,55 @@ module _ (s : List ℕ) (place size : ℕ) (ok : is_fine (top_of s (placed s pla
     unfolding top_of ◌>>=◌
     tops = rw said
 
-    passed-check : check_answer (track_of s v (bare place size)) ≡ check.Passed
+    passed_check : check_answer (track_of s v (bare place size)) ≡ check.Passed
     unfolding opened
-    passed-check =
+    passed_check =
         let f = fine_some (opened s (placed s place size) (some v)) (ap is_fine (sym tops) ∙ ok) in
         let b = bind_fine (track_of s v (placed s place size)) _ f.0 f.1 in
         ap check_answer (sym (id_free s v place size) ∙ b.1) ∙ passes b.0
 
     the_track : (track : Track) × (track_of s v (placed s place size) ≡ fine track)
-    the_track = a_track s v place size _ refl passed-check
+    the_track = a_track s v place size _ refl passed_check
 
-    pub opened-parts-from : place + 8 + 6 ≤ place + 8 + size
-    opened-parts-from = opened-from s v place size _ refl passed-check
+    pub opened_parts_from : place + 8 + 6 ≤ place + 8 + size
+    opened_parts_from = opened_from s v place size _ refl passed_check
 
-    pub opened-parts-fine : is_fine (chunks_in s (place + 8 + 6) (place + 8 + size)) ≡ true
-    opened-parts-fine = opened-fine s v place size _ refl passed-check
+    pub opened_parts_fine : is_fine (chunks_in s (place + 8 + 6) (place + 8 + size)) ≡ true
+    opened_parts_fine = opened_fine s v place size _ refl passed_check
 
-    a-readable : top_of s (placed s place size) ≡ fine (readable (placed s place size) the_track.0)
+    a_readable : top_of s (placed s place size) ≡ fine (readable (placed s place size) the_track.0)
     unfolding opened ◌>>=◌
-    a-readable = tops ∙ rw the_track.1
+    a_readable = tops ∙ rw the_track.1
 
-    pub parts-opened : parts_by (top_of s (placed s place size)) ≡ found (chunks_in s (place + 8 + 6) (place + 8 + size))
+    pub parts_opened : parts_by (top_of s (placed s place size)) ≡ found (chunks_in s (place + 8 + 6) (place + 8 + size))
     unfolding parts_by parts_of found the_track
-    parts-opened = ap parts_by a-readable ∙ sym (ap found (listed-parts s v place size _ refl passed-check))
+    parts_opened = ap parts_by a_readable ∙ sym (ap found (listed_parts s v place size _ refl passed_check))
 
     module _ (k : ℕ) (l : List ℕ) where
-      pub opened-room : 4 * (k + 1 + length (parts_by (top_of s (placed s place size)))) ≤ length l
+      pub opened_room : 4 * (k + 1 + length (parts_by (top_of s (placed s place size)))) ≤ length l
           → 4 * (k + 1 + length (found (chunks_in s (place + 8 + 6) (place + 8 + size)))) ≤ length l
-      opened-room h = rw parts-opened at h
+      opened_room h = rw parts_opened at h
 
-      pub opened-count : (n : ℕ) → n ≡ k + 1 + length (found (chunks_in s (place + 8 + 6) (place + 8 + size)))
+      pub opened_count : (n : ℕ) → n ≡ k + 1 + length (found (chunks_in s (place + 8 + 6) (place + 8 + size)))
           → n ≡ k + 1 + length (parts_by (top_of s (placed s place size)))
-      opened-count n e = rw parts-opened e
+      opened_count n e = rw parts_opened e
 
-      pub opened-filled : (out : List ℕ) → out ≡ sets l (4 * (k + 1)) (numbers_of (map (row_in k) (found (chunks_in s (place + 8 + 6) (place + 8 + size)))))
+      pub opened_filled : (out : List ℕ) → out ≡ sets l (4 * (k + 1)) (numbers_of (map (row_in k) (found (chunks_in s (place + 8 + 6) (place + 8 + size)))))
           → out ≡ sets l (4 * (k + 1)) (numbers_of (map (row_in k) (parts_by (top_of s (placed s place size)))))
-      opened-filled out e = rw parts-opened e
+      opened_filled out e = rw parts_opened e
 
   -- a closed leaf
   module _ (e : r ≡ voice.Closed) where
-    parts-closed : parts_by (top_of s (placed s place size)) ≡ []
+    parts_closed : parts_by (top_of s (placed s place size)) ≡ []
     unfolding top_of opened parts_by parts_of ◌>>=◌
-    parts-closed = rw (voice_is_closed _ (sym is ∙ e))
+    parts_closed = rw (voice_is_closed _ (sym is ∙ e))
 
-    pub closed-count : (k : ℕ) → k + 1 ≡ k + 1 + length (parts_by (top_of s (placed s place size)))
-    closed-count k = omega (arith, ap length parts-closed)
+    pub closed_count : (k : ℕ) → k + 1 ≡ k + 1 + length (parts_by (top_of s (placed s place size)))
+    closed_count k = omega (arith, ap length parts_closed)
 
-    pub closed-filled : (k : ℕ) (l : List ℕ) → l ≡ sets l (4 * (k + 1)) (numbers_of (map (row_in k) (parts_by (top_of s (placed s place size)))))
+    pub closed_filled : (k : ℕ) (l : List ℕ) → l ≡ sets l (4 * (k + 1)) (numbers_of (map (row_in k) (parts_by (top_of s (placed s place size)))))
     unfolding numbers_of
-    closed-filled k l = rw parts-closed
+    closed_filled k l = rw parts_closed
 
   -- and nothing else
   module _ (number at : ℕ) (e : r ≡ voice.Refused number at) where
@@ -94,11 +94,11 @@ module _ (s : List ℕ) (place size : ℕ) (ok : is_fine (top_of s (placed s pla
     unfolding top_of ◌>>=◌ is_fine
     never = false≢true (rw (voice_is_refused _ number at (sym is ∙ e)) at ok)
 
-    pub never-count : (k : ℕ) → k + 1 ≡ k + 1 + length (parts_by (top_of s (placed s place size)))
-    never-count k = absurd never
+    pub never_count : (k : ℕ) → k + 1 ≡ k + 1 + length (parts_by (top_of s (placed s place size)))
+    never_count k = absurd never
 
-    pub never-filled : (k : ℕ) (l : List ℕ) → l ≡ sets l (4 * (k + 1)) (numbers_of (map (row_in k) (parts_by (top_of s (placed s place size)))))
-    never-filled k l = absurd never
+    pub never_filled : (k : ℕ) (l : List ℕ) → l ≡ sets l (4 * (k + 1)) (numbers_of (map (row_in k) (parts_by (top_of s (placed s place size)))))
+    never_filled k l = absurd never
 
 -- a chunk of the top level brings no more rows than it has bytes
 
@@ -114,11 +114,11 @@ top_few s place size ok = go (voice_answer (voice_of s (placed s place size))) r
   where
     go : (r : FoundVoice) → r ≡ voice_answer (voice_of s (placed s place size)) → length (parts_by (top_of s (placed s place size))) ≤ size
     go (voice.Opened v) is =
-        let from = opened-parts-from s place size ok _ is v refl in
-        let stand = list_stands s (place + 8 + 6) (place + 8 + size) from (opened-parts-fine s place size ok _ is v refl) in
+        let from = opened_parts_from s place size ok _ is v refl in
+        let stand = list_stands s (place + 8 + 6) (place + 8 + size) from (opened_parts_fine s place size ok _ is v refl) in
         let few = stand_few s (place + 8 + size) (place + 8 + 6) (found (chunks_in s (place + 8 + 6) (place + 8 + size))) from stand in
-        omega (arith, ap length (parts-opened s place size ok _ is v refl))
-    go voice.Closed is = omega (arith, closed-count s place size ok _ is refl 0)
+        omega (arith, ap length (parts_opened s place size ok _ is v refl))
+    go voice.Closed is = omega (arith, closed_count s place size ok _ is refl 0)
     go (voice.Refused number at) is = absurd (never s place size ok _ is number at refl)
 
 -- the chunk's own row in front of those of its sub-chunks
@@ -134,6 +134,6 @@ module _ (s : List ℕ) (place size k : ℕ) (l m : List ℕ) where
       ∙ row_first l k id place size 0 (map (row_in k) parts)
       ∙ ap (λ (x : ℕ). sets l (4 * k) (numbers_of (row_in 0 (record { id = x; place = place; size = size }) ∷ map (row_in k) parts))) n
 
-pub ruleset top_rows_lem = (opened-parts-from, opened-parts-fine, opened-room, opened-count, opened-filled, closed-count, closed-filled, never-count, never-filled)
+pub ruleset top_rows_lem = (opened_parts_from, opened_parts_fine, opened_room, opened_count, opened_filled, closed_count, closed_filled, never_count, never_filled)
 
 pub ruleset own_rows = (own_room, own_filled)

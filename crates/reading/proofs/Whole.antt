@@ -17,7 +17,7 @@ use Rattle.model.specs.declared.ReadAnswer.TheVariants as read
 use Rattle.model.specs.declared.Counted.{Counted}
 use Rattle.model.specs.declared.Counted.TheVariants as counted
 use Rattle.reading.proofs.Filling.{numbers_many}
-use Rattle.reading.proofs.Stated.{stated_past, stated_over, stated-within, stated_small}
+use Rattle.reading.proofs.Stated.{stated_past, stated_over, stated_within, stated_small}
 use Rattle.reading.specs.Stages.{file_answer, file_rows, with_room}
 
 -- a refusal answers its number and place, and keeps the table
@@ -71,15 +71,15 @@ module _ (s : List ℕ) (l : List ℕ) (r : Counted) (told : r ≡ file_answer (
     pub stated_refused : read.Refused number place ≡ read_answer (with_room (length l) (contents_of s))
     stated_refused = refused_answer _ number place (room_refused (length l) (contents_of s) number place (sym told ∙ e))
 
-    pub stated-kept : l ≡ read_table l (with_room (length l) (contents_of s))
-    stated-kept = refused_kept l _ number place (room_refused (length l) (contents_of s) number place (sym told ∙ e))
+    pub stated_kept : l ≡ read_table l (with_room (length l) (contents_of s))
+    stated_kept = refused_kept l _ number place (room_refused (length l) (contents_of s) number place (sym told ∙ e))
 
   module _ (count : ℕ) (e : r ≡ counted.Rows count) where
-    pub stated-short : length l / 4 < count → read.Refused 15 0 ≡ read_answer (with_room (length l) (contents_of s))
-    stated-short h = refused_answer _ 15 0 (room_short (length l) (contents_of s) count (sym told ∙ e) h)
+    pub stated_short : length l / 4 < count → read.Refused 15 0 ≡ read_answer (with_room (length l) (contents_of s))
+    stated_short h = refused_answer _ 15 0 (room_short (length l) (contents_of s) count (sym told ∙ e) h)
 
-    pub stated-short-kept : length l / 4 < count → l ≡ read_table l (with_room (length l) (contents_of s))
-    stated-short-kept h = refused_kept l _ 15 0 (room_short (length l) (contents_of s) count (sym told ∙ e) h)
+    pub stated_short_kept : length l / 4 < count → l ≡ read_table l (with_room (length l) (contents_of s))
+    stated_short_kept h = refused_kept l _ 15 0 (room_short (length l) (contents_of s) count (sym told ∙ e) h)
 
     module _ (enough : count ≤ length l / 4) where
       fits : Roomy (length l) (contents_of s) count
@@ -88,8 +88,8 @@ module _ (s : List ℕ) (l : List ℕ) (r : Counted) (told : r ≡ file_answer (
       pub stated_fine : is_fine (contents_of s) ≡ true
       stated_fine = fits.ok
 
-      pub stated-count : count ≡ length (file_rows (contents_of s))
-      stated-count = fits.rows
+      pub stated_count : count ≡ length (file_rows (contents_of s))
+      stated_count = fits.rows
 
       pub stated_room : 4 * length (file_rows (contents_of s)) ≤ length l
       stated_room = omega (arith, fits.rows)
@@ -97,10 +97,10 @@ module _ (s : List ℕ) (l : List ℕ) (r : Counted) (told : r ≡ file_answer (
       pub stated_answer : (a : ReadAnswer) → a ≡ read_answer (contents_of s) → a ≡ read_answer (with_room (length l) (contents_of s))
       stated_answer a h = h ∙ ap read_answer (sym fits.is)
 
-      pub stated-table : (m : List ℕ) → m ≡ sets l 0 (numbers_of (file_rows (contents_of s))) → m ≡ read_table l (with_room (length l) (contents_of s))
-      stated-table m h = h ∙ written_table l (contents_of s) stated_fine stated_room ∙ ap (read_table l) (sym fits.is)
+      pub stated_table : (m : List ℕ) → m ≡ sets l 0 (numbers_of (file_rows (contents_of s))) → m ≡ read_table l (with_room (length l) (contents_of s))
+      stated_table m h = h ∙ written_table l (contents_of s) stated_fine stated_room ∙ ap (read_table l) (sym fits.is)
 
-pub ruleset stated = (stated_refused, stated-kept, stated-short, stated-short-kept, stated_fine, stated-count, stated_room, stated_answer, stated-table)
+pub ruleset stated = (stated_refused, stated_kept, stated_short, stated_short_kept, stated_fine, stated_count, stated_room, stated_answer, stated_table)
 
 -- the whole buffer: 1, then what is stated
 
@@ -131,12 +131,12 @@ module _ (buffer : List ℕ) (n : ℕ) (l : List ℕ) where
 
   module _ (h : n ≤ length buffer) (k : n ≤ 65536) where
     within : with_room (length l) (contents_of (take n buffer)) ≡ read_of buffer n (length l)
-    within = sym (read_is buffer n (length l) (contents_of (take n buffer)) (stated-within buffer n h k))
+    within = sym (read_is buffer n (length l) (contents_of (take n buffer)) (stated_within buffer n h k))
 
-    pub whole-answer : (a : ReadAnswer) → a ≡ read_answer (with_room (length l) (contents_of (take n buffer))) → a ≡ read_answer (read_of buffer n (length l))
-    whole-answer a e = e ∙ ap read_answer within
+    pub whole_answer : (a : ReadAnswer) → a ≡ read_answer (with_room (length l) (contents_of (take n buffer))) → a ≡ read_answer (read_of buffer n (length l))
+    whole_answer a e = e ∙ ap read_answer within
 
-    pub whole-table : (m : List ℕ) → m ≡ read_table l (with_room (length l) (contents_of (take n buffer))) → m ≡ read_table l (read_of buffer n (length l))
-    whole-table m e = e ∙ ap (read_table l) within
+    pub whole_table : (m : List ℕ) → m ≡ read_table l (with_room (length l) (contents_of (take n buffer))) → m ≡ read_table l (read_of buffer n (length l))
+    whole_table m e = e ∙ ap (read_table l) within
 
-pub ruleset whole = (past_refused, past_kept, over_refused, over_kept, stated_small, whole-answer, whole-table)
+pub ruleset whole = (past_refused, past_kept, over_refused, over_kept, stated_small, whole_answer, whole_table)

@@ -20,11 +20,11 @@ use Rattle.model.specs.declared.Span.{Span}
 use Rattle.model.proofs.Tests.{by_test}
 use Rattle.model.proofs.Walks.{stand_first, stand_never_stuck, stand_over}
 use Rattle.items.proofs.Ahead.{item_goes}
-use Rattle.items.proofs.Addresses.{stands_ahead, timed-met, mark-met, refused_stuck, reads_to_items}
+use Rattle.items.proofs.Addresses.{stands_ahead, timed_met, mark_met, refused_stuck, reads_to_items}
 use Rattle.items.proofs.Standing.{body_stands}
 use Rattle.sections.specs.Spans.{Items, messages_after, Rest, since, place_of, items_from, items_through, span_of, counted, span_rows, Begun, Playable}
 use Rattle.sections.proofs.Cutting.{from_through, since_through}
-use Rattle.sections.proofs.Places.{Standing, stands_within, first-stands, from_since, item-short, past-small}
+use Rattle.sections.proofs.Places.{Standing, stands_within, first_stands, from_since, item_short, past_small}
 
 -- the rows of the next so many messages, after a time that is past
 abbrev pub next_rows : ℕ → ℕ → ℕ → ℕ → Items → List (At Event)
@@ -114,8 +114,8 @@ module _ (voice : Voice) (s : List ℕ) (bytes : (k : ℕ) → s ! k < 256) (sma
           bytes = bytes;
           small = small;
           rest = left;
-          stands = subst (λ (n : ℕ). Standing voice s n left) (sym begun.first) (first-stands voice s span.start 0 0 all stand);
-          short = rw (begun.first, begun.past) (past-small voice s bytes small span.start 0 0 all stand (omega arith));
+          stands = subst (λ (n : ℕ). Standing voice s n left) (sym begun.first) (first_stands voice s span.start 0 0 all stand);
+          short = rw (begun.first, begun.past) (past_small voice s bytes small span.start 0 0 all stand (omega arith));
           late = subst (λ (n : ℕ). NotBefore span.start n left) (sym begun.past) (since_not_before span.start 0 all);
         },
         λ before. rw from refl,
@@ -163,8 +163,8 @@ module _ (voice : Voice) (s : List ℕ) (start place time : ℕ) (a : Ahead voic
     opened : (items : Items) × (a.rest ≡ record { place = place; what = what } ∷ items) × Standing voice s next items
     opened = stand_first (length s) (item_step voice s) place a.rest a.stands (omega (arith, nears)) _ next e
 
-    not-before : start ≤ time + duration_of what
-    not-before = subst (NotBefore start time) opened.1 a.late
+    not_before : start ≤ time + duration_of what
+    not_before = subst (NotBefore start time) opened.1 a.late
 
     onward : (later : ℕ) → time + duration_of what ≡ later → Onward what next later
     onward later on =
@@ -174,35 +174,35 @@ module _ (voice : Voice) (s : List ℕ) (start place time : ℕ) (a : Ahead voic
             small = a.small;
             rest = items;
             stands = opened.2;
-            short = omega (arith, a.short, nears, item-short voice s a.bytes a.small place _ next e);
-            late = later_not_before start later items (omega (arith, not-before));
+            short = omega (arith, a.short, nears, item_short voice s a.bytes a.small place _ next e);
+            late = later_not_before start later items (omega (arith, not_before));
           },
           opened.1,
         )
 
   module _ (duration next : ℕ) (event : Event) (e : item_at voice s place ≡ Timed duration event next) where
-    is-timed : item_step voice s place ≡ met (record { place = place; what = timed duration event }) next
-    is-timed = timed-met voice s place (item_at voice s place) refl duration next event e
+    is_timed : item_step voice s place ≡ met (record { place = place; what = timed duration event }) next
+    is_timed = timed_met voice s place (item_at voice s place) refl duration next event e
 
-    pub timed-late : start ≤ time + duration
+    pub timed_late : start ≤ time + duration
     unfolding duration_of
-    timed-late = not-before (timed duration event) next is-timed
+    timed_late = not_before (timed duration event) next is_timed
 
-    pub timed-onward : Onward (timed duration event) next (time + duration)
+    pub timed_onward : Onward (timed duration event) next (time + duration)
     unfolding duration_of
-    timed-onward = onward (timed duration event) next is-timed (time + duration) refl
+    timed_onward = onward (timed duration event) next is_timed (time + duration) refl
 
   module _ (next : ℕ) (e : item_at voice s place ≡ EndMark next) where
-    is-mark : item_step voice s place ≡ met (record { place = place; what = end_mark }) next
-    is-mark = mark-met voice s place (item_at voice s place) refl next e
+    is_mark : item_step voice s place ≡ met (record { place = place; what = end_mark }) next
+    is_mark = mark_met voice s place (item_at voice s place) refl next e
 
-    pub mark-late : start ≤ time + 0
+    pub mark_late : start ≤ time + 0
     unfolding duration_of
-    mark-late = not-before end_mark next is-mark
+    mark_late = not_before end_mark next is_mark
 
-    pub mark-onward : Onward end_mark next time
+    pub mark_onward : Onward end_mark next time
     unfolding duration_of
-    mark-onward = onward end_mark next is-mark time (add-zero time)
+    mark_onward = onward end_mark next is_mark time (add-zero time)
 
   -- nothing that stands in a body that reads is refused
   pub never_refused : (number there : ℕ) → place < length s → item_at voice s place ≡ Refused number there → ⊥

@@ -78,26 +78,26 @@ module _ (l : List ℕ) (from count more at : ℕ) where
       here : out ! (from + i) ≡ part l from count ! i
       here = c.copied.kept (from + i) (omega (arith, c.behind)) ∙ sym (part_at l from count i h)
 
-      pub steps-read : from + i < length out
-      steps-read = omega (arith, c.behind, c.room, c.copied.same)
+      pub steps_read : from + i < length out
+      steps_read = omega (arith, c.behind, c.room, c.copied.same)
 
-      pub steps-read-fits : Fits w64 (from + i)
-      steps-read-fits = record { fits = omega (arith, c.behind, c.room, c.short) }
+      pub steps_read_fits : Fits w64 (from + i)
+      steps_read_fits = record { fits = omega (arith, c.behind, c.room, c.short) }
 
-      pub steps-write : at + i < length out
-      steps-write = omega (arith, c.room, c.copied.same)
+      pub steps_write : at + i < length out
+      steps_write = omega (arith, c.room, c.copied.same)
 
-      pub steps-write-fits : Fits w64 (at + i)
-      steps-write-fits = record { fits = omega (arith, c.room, c.short) }
+      pub steps_write_fits : Fits w64 (at + i)
+      steps_write_fits = record { fits = omega (arith, c.room, c.short) }
 
-      pub steps-sum-fits : (step : ℕ) → step ≡ out ! (from + i) → Fits w64 (step + more)
-      steps-sum-fits step is = record { fits = omega (arith, is, here, c.fits i (omega (arith, part_length l from count (omega (arith, c.behind, c.room))))) }
+      pub steps_sum_fits : (step : ℕ) → step ≡ out ! (from + i) → Fits w64 (step + more)
+      steps_sum_fits step is = record { fits = omega (arith, is, here, c.fits i (omega (arith, part_length l from count (omega (arith, c.behind, c.room))))) }
 
-      pub steps-near : Fits w64 (i + 1)
-      steps-near = record { fits = omega (arith, c.room, c.short) }
+      pub steps_near : Fits w64 (i + 1)
+      steps_near = record { fits = omega (arith, c.room, c.short) }
 
-      pub steps-turn : (step : ℕ) → step ≡ out ! (from + i) → CopyingSteps l (set out (at + i) (step + more)) from count more at (i + 1)
-      steps-turn step is =
+      pub steps_turn : (step : ℕ) → step ≡ out ! (from + i) → CopyingSteps l (set out (at + i) (step + more)) from count more at (i + 1)
+      steps_turn step is =
           let parts = part_length l from count (omega (arith, c.behind, c.room)) in
           let sum : step + more ≡ later more (part l from count) ! i = ap (λ (n : ℕ). n + more) (is ∙ here) ∙ sym (later_at more (part l from count) i (omega (arith, parts))) in
           record {
@@ -109,13 +109,13 @@ module _ (l : List ℕ) (from count more at : ℕ) where
             copied = copy_next l out (later more (part l from count)) at i c.copied (step + more) (omega (arith, long)) sum;
           }
 
-    pub steps-done : count ≤ i → out ≡ sets l at (later more (part l from count))
-    steps-done past = copy_ends l out (later more (part l from count)) at i c.copied (omega (arith, long))
+    pub steps_done : count ≤ i → out ≡ sets l at (later more (part l from count))
+    steps_done past = copy_ends l out (later more (part l from count)) at i c.copied (omega (arith, long))
 
-    pub steps-kept : length out ≡ length l
-    steps-kept = c.copied.same
+    pub steps_kept : length out ≡ length l
+    steps_kept = c.copied.same
 
-pub ruleset steps_copied = (steps_start, steps-read, steps-read-fits, steps-write, steps-write-fits, steps-sum-fits, steps-near, steps-turn, steps-done, steps-kept)
+pub ruleset steps_copied = (steps_start, steps_read, steps_read_fits, steps_write, steps_write_fits, steps_sum_fits, steps_near, steps_turn, steps_done, steps_kept)
 
 -- WORDS, as they are
 
@@ -135,23 +135,23 @@ module _ (l : List ℕ) (from count at : ℕ) where
     words_long = part_length l from count (omega (arith, c.behind, c.room))
 
     module _ (h : i < count) where
-      pub words-read : from + i < length out
-      words-read = omega (arith, c.behind, c.room, c.copied.same)
+      pub words_read : from + i < length out
+      words_read = omega (arith, c.behind, c.room, c.copied.same)
 
-      pub words-read-fits : Fits w64 (from + i)
-      words-read-fits = record { fits = omega (arith, c.behind, c.room, c.short) }
+      pub words_read_fits : Fits w64 (from + i)
+      words_read_fits = record { fits = omega (arith, c.behind, c.room, c.short) }
 
-      pub words-write : at + i < length out
-      words-write = omega (arith, c.room, c.copied.same)
+      pub words_write : at + i < length out
+      words_write = omega (arith, c.room, c.copied.same)
 
-      pub words-write-fits : Fits w64 (at + i)
-      words-write-fits = record { fits = omega (arith, c.room, c.short) }
+      pub words_write_fits : Fits w64 (at + i)
+      words_write_fits = record { fits = omega (arith, c.room, c.short) }
 
-      pub words-near : Fits w64 (i + 1)
-      words-near = record { fits = omega (arith, c.room, c.short) }
+      pub words_near : Fits w64 (i + 1)
+      words_near = record { fits = omega (arith, c.room, c.short) }
 
-      pub words-turn : (word : ℕ) → word ≡ out ! (from + i) → CopyingWords l (set out (at + i) word) from count at (i + 1)
-      words-turn word is =
+      pub words_turn : (word : ℕ) → word ≡ out ! (from + i) → CopyingWords l (set out (at + i) word) from count at (i + 1)
+      words_turn word is =
           record {
             behind = c.behind;
             room = c.room;
@@ -162,13 +162,13 @@ module _ (l : List ℕ) (from count at : ℕ) where
                 (is ∙ c.copied.kept (from + i) (omega (arith, c.behind)) ∙ sym (part_at l from count i h));
           }
 
-    pub words-done : count ≤ i → out ≡ sets l at (part l from count)
-    words-done past = copy_ends l out (part l from count) at i c.copied (omega (arith, words_long))
+    pub words_done : count ≤ i → out ≡ sets l at (part l from count)
+    words_done past = copy_ends l out (part l from count) at i c.copied (omega (arith, words_long))
 
-    pub words-kept : length out ≡ length l
-    words-kept = c.copied.same
+    pub words_kept : length out ≡ length l
+    words_kept = c.copied.same
 
-pub ruleset Words-Copied = (words_start, words-read, words-read-fits, words-write, words-write-fits, words-near, words-turn, words-done, words-kept)
+pub ruleset Words-Copied = (words_start, words_read, words_read_fits, words_write, words_write_fits, words_near, words_turn, words_done, words_kept)
 
 -- A PART of a table after more was stored behind it, and the part that was stored
 

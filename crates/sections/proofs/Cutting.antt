@@ -16,7 +16,7 @@ use Rattle.model.proofs.Picking.{through_none}
 use Rattle.items.proofs.Addresses.{placed_at, stands_ahead, reads_to_items}
 use Rattle.items.proofs.Standing.{body_stands}
 use Rattle.sections.specs.Spans.{Items, since, place_of, items_from, mark_from, items_through, span_rows}
-use Rattle.sections.proofs.Places.{Standing, first-ahead}
+use Rattle.sections.proofs.Places.{Standing, first_ahead}
 use Rattle.sections.proofs.Marks.{not_from}
 
 pub from_through : (first marks : ℕ) (items : Items) → first ≤ marks → items_through marks (items_from first items) ≡ items_from first (items_through marks items)
@@ -40,7 +40,7 @@ module _ (voice : Voice) (s : List ℕ) where
       by_test (past + duration_of item.what <? time)
       (λ t.
       let a = stands_ahead voice s at item st.0 st.1 in
-      let f = first-ahead voice s time (past + duration_of item.what) st.0 items st.2 in
+      let f = first_ahead voice s time (past + duration_of item.what) st.0 items st.2 in
       let later : place_of (length s) (since time (past + duration_of item.what) items).items ≤ marks = simp t at h in
       let early : item.place < marks = omega (arith, placed_at voice s at item st.0 st.1) in
       simp (t, not_from marks item early) (since_through marks time (past + duration_of item.what) st.0 items st.2 later))
@@ -59,5 +59,5 @@ module _ (voice : Voice) (s : List ℕ) where
     pub uncut : items_through (length s) (items_of voice s) ≡ items_of voice s
     uncut = through_none (mark_from (length s)) (items_of voice s) (none_at_size 0 (items_of voice s) (body_stands voice s (items_of voice s) (reads_to_items voice s fine)))
 
-    pub uncut-rows : (span : Span) (before : ℕ) → span_rows (items_through (length s) (items_of voice s)) span before ≡ span_rows (items_of voice s) span before
-    uncut-rows span before = ap (λ (items : Items). span_rows items span before) uncut
+    pub uncut_rows : (span : Span) (before : ℕ) → span_rows (items_through (length s) (items_of voice s)) span before ≡ span_rows (items_of voice s) span before
+    uncut_rows span before = ap (λ (items : Items). span_rows items span before) uncut

@@ -57,16 +57,16 @@ module _ (s : List ℕ) (bytes : (k : ℕ) → s ! k < 256) where
   gated_in_word voice byte (duration.Refused number place) h k = tt
 
   module _ (voice : Voice) (at : ℕ) where
-    sound-in-word : EventInWord (sound_at voice s at)
+    sound_in_word : EventInWord (sound_at voice s at)
     unfolding sound_at gate_at
-    sound-in-word =
+    sound_in_word =
         if_all EventInWord (is_sound voice (s ! at)) _ _
         (λ h. gated_in_word voice (s ! at) _ (bytes at) (gate_short (at + 1) (duration_at s (at + 1)) (duration_short (at + 1))))
         (λ h. tt)
 
-    long-in-word : (byte : ℕ) → byte < 256 → EventInWord (long_at voice s at (byte / 64) (long_kind (byte % 16)))
+    long_in_word : (byte : ℕ) → byte < 256 → EventInWord (long_at voice s at (byte / 64) (long_kind (byte % 16)))
     unfolding long_at
-    long-in-word byte b =
+    long_in_word byte b =
         let kind = long_kind (byte % 16) in
         let low : byte % 16 < 16 = omega arith in
         if_all EventInWord (kind ≡? 0) _ _ (λ h. tt)
@@ -76,55 +76,55 @@ module _ (s : List ℕ) (bytes : (k : ℕ) → s ! k < 256) where
         (λ k. omega (arith, kind_from (byte % 16) low (eqb-false kind 0 h), kind_to (byte % 16) low, bytes (at + 2)))
         (λ k. tt))))
 
-    short-in-word : (byte : ℕ) → byte < 256 → EventInWord (short_at voice at (byte / 64) (short_kind (byte / 16 % 4)) (byte % 16))
+    short_in_word : (byte : ℕ) → byte < 256 → EventInWord (short_at voice at (byte / 64) (short_kind (byte / 16 % 4)) (byte % 16))
     unfolding short_at
-    short-in-word byte b =
+    short_in_word byte b =
         if_all EventInWord (not (has_kind voice (short_kind (byte / 16 % 4)))) _ _ (λ h. tt)
         (λ h. if_all EventInWord (byte % 16 ≡? 0) _ _ (λ i. tt)
         (λ i. if_all EventInWord (byte % 16 ≡? 15) _ _ (λ j. tt) (λ j. omega arith)))
 
-    control-in-word : EventInWord (control_at voice s at)
+    control_in_word : EventInWord (control_at voice s at)
     unfolding control_at formed
-    control-in-word =
+    control_in_word =
         let byte = s ! (at + 1) in
         if_all EventInWord (length s ≤? at + 1) _ _ (λ h. tt)
-        (λ h. if_all EventInWord (byte / 16 % 4 ≡? 3) _ _ (λ i. long-in-word byte (bytes (at + 1))) (λ i. short-in-word byte (bytes (at + 1))))
+        (λ h. if_all EventInWord (byte / 16 % 4 ≡? 3) _ _ (λ i. long_in_word byte (bytes (at + 1))) (λ i. short_in_word byte (bytes (at + 1))))
 
   module _ (small : length s ≤ 65536) where
-    exclusive-in-word : (at : ℕ) → EventInWord (exclusive_at s at)
+    exclusive_in_word : (at : ℕ) → EventInWord (exclusive_at s at)
     unfolding exclusive_at closed_at
-    exclusive-in-word at =
+    exclusive_in_word at =
         let size = s ! (at + 2) in
         if_all EventInWord (length s ≤? at + 2) _ _ (λ h. tt)
         (λ h. if_all EventInWord (size <? 3) _ _ (λ i. tt)
         (λ i. if_all EventInWord (length s ≤? at + 2 + size) _ _ (λ j. tt)
         (λ j. if_all EventInWord (s ! (at + 2 + size) ≡? 0xF7) _ _ (λ k. omega (arith, leb-false (length s) (at + 2) h, bytes (at + 2))) (λ k. tt))))
 
-    system-in-word : (at : ℕ) → EventInWord (system_at s at)
+    system_in_word : (at : ℕ) → EventInWord (system_at s at)
     unfolding system_at
-    system-in-word at =
+    system_in_word at =
         if_all EventInWord (length s ≤? at + 1) _ _ (λ h. tt)
         (λ h. if_all EventInWord (s ! (at + 1) ≡? 0x00) _ _ (λ i. tt)
-        (λ i. if_all EventInWord (s ! (at + 1) ≡? 0xF0) _ _ (λ j. exclusive-in-word at) (λ j. tt)))
+        (λ i. if_all EventInWord (s ! (at + 1) ≡? 0xF0) _ _ (λ j. exclusive_in_word at) (λ j. tt)))
 
     event_in_word : (voice : Voice) (at : ℕ) → EventInWord (event_at voice s at)
     unfolding event_at
     event_in_word voice at =
         if_all EventInWord (length s ≤? at) _ _ (λ h. tt)
-        (λ h. if_all EventInWord (s ! at ≡? 0x00) _ _ (λ i. control-in-word voice at)
-        (λ i. if_all EventInWord (s ! at ≡? 0xFF) _ _ (λ j. system-in-word at) (λ j. sound-in-word voice at)))
+        (λ h. if_all EventInWord (s ! at ≡? 0x00) _ _ (λ i. control_in_word voice at)
+        (λ i. if_all EventInWord (s ! at ≡? 0xFF) _ _ (λ j. system_in_word at) (λ j. sound_in_word voice at)))
 
-    with-event : (value : ℕ) (e : ReadEvent) → value ≤ 16511 → EventInWord e → ItemInWord (with_event value e)
+    with_event_lem : (value : ℕ) (e : ReadEvent) → value ≤ 16511 → EventInWord e → ItemInWord (with_event value e)
     unfolding with_event
-    with-event value (event.Is what next) h k = (h, k)
-    with-event value (event.Refused number place) h k = tt
+    with_event_lem value (event.Is what next) h k = (h, k)
+    with_event_lem value (event.Refused number place) h k = tt
 
-    with-duration : (voice : Voice) (d : ReadDuration) → DurationShort d → ItemInWord (with_duration voice s d)
+    with_duration_lem : (voice : Voice) (d : ReadDuration) → DurationShort d → ItemInWord (with_duration voice s d)
     unfolding with_duration
-    with-duration voice (duration.Is value next) h = with-event value (event_at voice s next) h (event_in_word voice next)
-    with-duration voice (duration.Refused number place) h = tt
+    with_duration_lem voice (duration.Is value next) h = with_event_lem value (event_at voice s next) h (event_in_word voice next)
+    with_duration_lem voice (duration.Refused number place) h = tt
 
-    pub item-in-word : (voice : Voice) (at : ℕ) → ItemInWord (item_at voice s at)
+    pub item_in_word : (voice : Voice) (at : ℕ) → ItemInWord (item_at voice s at)
     unfolding item_at
-    item-in-word voice at =
-        if_all ItemInWord (is_end_mark s at) _ _ (λ h. tt) (λ h. with-duration voice (duration_at s at) (duration_short at))
+    item_in_word voice at =
+        if_all ItemInWord (is_end_mark s at) _ _ (λ h. tt) (λ h. with_duration_lem voice (duration_at s at) (duration_short at))

@@ -21,16 +21,16 @@ use Rattle.model.specs.declared.ReadItem.TheVariants.{Timed, EndMark, Refused}
 use Rattle.model.specs.declared.Reached.{Reached}
 use Rattle.model.proofs.Tests.{by_test}
 use Rattle.model.proofs.Picking.{any_append, through_none, through_append, through_here}
-use Rattle.items.proofs.Addresses.{placed_at, stands_ahead, one_there, timed-met, mark-met, refused_stuck, none_there, passed_by_lem}
+use Rattle.items.proofs.Addresses.{placed_at, stands_ahead, one_there, timed_met, mark_met, refused_stuck, none_there, passed_by_lem}
 use Rattle.sections.specs.Spans.{Items, mark_from}
 use Rattle.sections.specs.Reaching.{items_to, reached_of, heard_by, passed_by, Walked, Arrived}
 use Rattle.sections.specs.Taking.{AllBytes, ItemAgrees}
 use Rattle.sections.specs.declared.Taken.{Taken}
-use Rattle.sections.proofs.InWords.{ItemInWord, item-in-word}
+use Rattle.sections.proofs.InWords.{ItemInWord, item_in_word}
 use Rattle.sections.proofs.Places.{stands_within}
 use Rattle.sections.proofs.Taking.{word_none, word_some}
 use Rattle.sections.proofs.Marks.{not_from}
-use Rattle.sections.proofs.Walking.{Walking, split_later, walking_starts, walking_is, behind-next, walking_on}
+use Rattle.sections.proofs.Walking.{Walking, split_later, walking_starts, walking_is, behind_next, walking_on}
 
 -- how many messages an event is, and an item
 abbrev messages_in : Event → ℕ
@@ -178,36 +178,36 @@ module _ (voice : Voice) (s : List ℕ) where
       }
 
   module _ (start marks address : ℕ) (r : Reached) (n : Nearing start marks address r) where
-    pub near-after : start ≤ r.at
-    near-after = n.from
+    pub near_after : start ≤ r.at
+    near_after = n.from
 
     near_ends : r.at ≡ address → Arrived all (length s) marks address r
     near_ends e =
-        let none-met : any (mark_from marks) (items_to address all) ≡ false = ap (λ (n : ℕ). any (mark_from marks) (items_to n all)) (sym e) ∙ n.clear in
+        let none_met : any (mark_from marks) (items_to address all) ≡ false = ap (λ (n : ℕ). any (mark_from marks) (items_to n all)) (sym e) ∙ n.clear in
         record {
           walked = walking_there r n.rest n.walking n.small;
           near = n.near;
-          behind = ap (λ (n : ℕ). items_to n all) e ∙ sym (through_none (mark_from marks) (items_to address all) none-met);
+          behind = ap (λ (n : ℕ). items_to n all) e ∙ sym (through_none (mark_from marks) (items_to address all) none_met);
           whole = λ h. e;
         }
 
-    pub near-there : address ≤ r.at → Arrived all (length s) marks address r
-    near-there h = near_ends (omega (arith, n.near))
+    pub near_there : address ≤ r.at → Arrived all (length s) marks address r
+    near_there h = near_ends (omega (arith, n.near))
 
     within : r.at ≤ 65536
     within = omega (arith, stands_within voice s r.at n.rest n.walking.stands, n.body)
 
-    pub near-time : r.time ≤ 281474976710656
-    near-time = omega (arith, within, n.small)
+    pub near_time : r.time ≤ 281474976710656
+    near_time = omega (arith, within, n.small)
 
-    pub near-few : r.messages ≤ 65536
-    near-few = omega (arith, within, n.walking.few)
+    pub near_few : r.messages ≤ 65536
+    near_few = omega (arith, within, n.walking.few)
 
-    pub near-bytes : AllBytes s
-    near-bytes = n.bytes
+    pub near_bytes : AllBytes s
+    near_bytes = n.bytes
 
-    pub near-body : length s ≤ 65536
-    near-body = n.body
+    pub near_body : length s ≤ 65536
+    near_body = n.body
 
     module _ (before : r.at < address) (is : is_address all (length s) address ≡ true) where
       -- an item stands at the place
@@ -259,7 +259,7 @@ module _ (voice : Voice) (s : List ℕ) where
             after = omega arith;
             behind =
                 ap (λ (n : ℕ). items_to n all) (at ∙ sym there)
-                ∙ behind-next voice s r item first.1 w (duration_of item.what) (heard_in item.what) refl (heard_one item.what) (says item.what)
+                ∙ behind_next voice s r item first.1 w (duration_of item.what) (heard_in item.what) refl (heard_one item.what) (says item.what)
                 ∙ ap (λ (x : Placed (Item Event)). items_to r.at all ++ (x ∷ [])) same;
             ahead =
                 split_later r.at address all (item ∷ first.1) (omega arith) w.split
@@ -291,7 +291,7 @@ module _ (voice : Voice) (s : List ℕ) where
       unfolding any ◌or◌
       marked what z f here =
           let mark : Placed (Item Event) = record { place = r.at; what = what } in
-          let met-one : any (mark_from marks) (items_to address all) ≡ true =
+          let met_one : any (mark_from marks) (items_to address all) ≡ true =
           ap (any (mark_from marks)) f.ahead ∙ any_append (mark_from marks) (items_to r.at all) _ n.clear ∙ simp here in (
             record {
               walked = walking_there z f.rest f.walking f.small;
@@ -301,7 +301,7 @@ module _ (voice : Voice) (s : List ℕ) where
                   ∙ sym (ap (through (mark_from marks)) f.ahead
                   ∙ through_append (mark_from marks) (items_to r.at all) _ n.clear
                   ∙ ap (λ (l : Items). items_to r.at all ++ l) (through_here (mark_from marks) mark (items_to address f.rest) here));
-              whole = λ h. absurd (false≢true (sym h ∙ met-one));
+              whole = λ h. absurd (false≢true (sym h ∙ met_one));
             },
             omega (arith, n.from, f.after),
           )
@@ -311,27 +311,27 @@ module _ (voice : Voice) (s : List ℕ) where
         never : ⊥
         never = let a = stands_ahead voice s r.at first.0 first.2.stands.0 first.2.stands.1 in omega arith
 
-        pub near-over : Arrived all (length s) marks address r
-        near-over = absurd never
+        pub near_over : Arrived all (length s) marks address r
+        near_over = absurd never
 
       -- an item that is taken as plain numbers
       module _ (taken : Taken) (agrees : ItemAgrees taken (item_at voice s r.at)) (z : Reached)
           (q : z ≡ passed_by r taken.duration (heard_by taken.word) taken.next) where
         took : (what : Item Event) × Further what z × (is_mark what ≡ taken.mark)
         unfolding duration_of heard_in heard_by is_mark ItemAgrees if◌then◌else◌
-        took = go (item_at voice s r.at) refl agrees (item-in-word s n.bytes n.body voice r.at)
+        took = go (item_at voice s r.at) refl agrees (item_in_word s n.bytes n.body voice r.at)
           where
             go : (j : ReadItem) → item_at voice s r.at ≡ j → ItemAgrees taken j → ItemInWord j → (what : Item Event) × Further what z × (is_mark what ≡ taken.mark)
             go (Timed duration event next) e a fits = (
               timed duration event,
-              further (timed duration event) next z (timed-met voice s r.at _ refl duration next event e) (omega (arith, fits.0))
+              further (timed duration event) next z (timed_met voice s r.at _ refl duration next event e) (omega (arith, fits.0))
                   (q ∙ ap (λ (t : Taken). passed_by r t.duration (heard_by t.word) t.next) a
                   ∙ ap (λ (heard : ℕ). passed_by r duration heard next) (word_heard event fits.1)),
               ap (λ (t : Taken). t.mark) (sym a),
             )
             go (EndMark next) e a fits = (
               end_mark,
-              further end_mark next z (mark-met voice s r.at _ refl next e) (omega arith)
+              further end_mark next z (mark_met voice s r.at _ refl next e) (omega arith)
                   (q ∙ ap (λ (t : Taken). passed_by r t.duration (heard_by t.word) t.next) a),
               ap (λ (t : Taken). t.mark) (sym a),
             )
@@ -354,14 +354,14 @@ module _ (voice : Voice) (s : List ℕ) where
           pub near_on : flag ≡ false → Nearing start marks address z
           near_on off = (goes_on off).0
 
-          pub on-nears : flag ≡ false → length s - z.at < length s - r.at
-          on-nears off = (goes_on off).1
+          pub on_nears : flag ≡ false → length s - z.at < length s - r.at
+          on_nears off = (goes_on off).1
 
-          pub mark-arrives : flag ≡ true → Arrived all (length s) marks address z
-          mark-arrives here = (ends here).0
+          pub mark_arrives : flag ≡ true → Arrived all (length s) marks address z
+          mark_arrives here = (ends here).0
 
-          pub mark-after : flag ≡ true → start ≤ z.at
-          mark-after here = (ends here).1
+          pub mark_after : flag ≡ true → start ≤ z.at
+          mark_after here = (ends here).1
 
 pub ruleset nearing =
-    (near-after, near-there, near-time, near-few, near-bytes, near-body, near-over, near_on, on-nears, mark-arrives, mark-after)
+    (near_after, near_there, near_time, near_few, near_bytes, near_body, near_over, near_on, on_nears, mark_arrives, mark_after)

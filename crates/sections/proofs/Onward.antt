@@ -28,7 +28,7 @@ use Rattle.sections.proofs.Marks.{open_through, lasts_through}
 use Rattle.sections.proofs.Stretches.{within, kept_since, all_kept, cut_few, span_sounds, span_counts}
 use Rattle.sections.proofs.Cutting.{from_through, since_through}
 use Rattle.sections.proofs.Nearing.{walked_begun}
-use Rattle.sections.proofs.Spanning.{heard-late, from-time, span-like}
+use Rattle.sections.proofs.Spanning.{heard_late, from_time, span_like}
 use Rattle.sections.proofs.Small.{messages_few}
 
 module _ (voice : Voice) (s : List ℕ) (fine : is_fine (body_of voice s) ≡ true) (from : Reached)
@@ -58,7 +58,7 @@ module _ (voice : Voice) (s : List ℕ) (fine : is_fine (body_of voice s) ≡ tr
   past_is = ap (λ (x : Reached). x.past) there
 
   time_is : from.time ≡ time_of all from.at
-  time_is = from-time voice s from came
+  time_is = from_time voice s from came
 
   early : from.first ≤ from.at
   early = walked_begun voice s fine from came.walked
@@ -68,10 +68,10 @@ module _ (voice : Voice) (s : List ℕ) (fine : is_fine (body_of voice s) ≡ tr
   unfolding stream_section items_within
   plays_all =
       let left = since (time_of all from.at) 0 all in
-      let since-is : items_from from.first all ≡ left.items =
+      let since_is : items_from from.first all ≡ left.items =
       ap (λ (n : ℕ). items_from n all) first_is ∙ from_since voice s (time_of all from.at) 0 0 all stand in
       let there : place_of (length s) left.items ≤ from.at = omega (arith, first_is, early) in
-      ap (messages_after from.past) (sym (from_through from.first from.at all early) ∙ ap (items_through from.at) since-is)
+      ap (messages_after from.past) (sym (from_through from.first from.at all early) ∙ ap (items_through from.at) since_is)
       ∙ ap (λ (n : ℕ). messages_after n (items_through from.at left.items)) past_is
       ∙ ap (λ (x : Rest). messages_after x.past x.items) (sym (since_through voice s from.at (time_of all from.at) 0 0 all stand there))
       ∙ sym (ap (messages_of is_message) (ap (keep (within section)) (open_through section refl 0 all) ∙ kept_since section 0 heard ∙ all_kept _))
@@ -90,12 +90,12 @@ module _ (voice : Voice) (s : List ℕ) (fine : is_fine (body_of voice s) ≡ tr
       rw plays_all (take_all (length s) (messages_within section all) few)
 
   module _ (bound : Span) (is : bound ≡ span_on from (length s) 0) where
-    pub onward-begins : Begun (items_of voice s) (length s) bound
-    onward-begins =
+    pub onward_begins : Begun (items_of voice s) (length s) bound
+    onward_begins =
         subst (Begun all (length s)) (sym is) (record { first = rw time_is first_is; past = rw time_is past_is })
 
-    pub onward-early : bound.first ≤ from.at
-    onward-early = let same : bound.first ≡ from.first = ap (λ (span : Span). span.first) is in omega (arith, early)
+    pub onward_early : bound.first ≤ from.at
+    onward_early = let same : bound.first ≡ from.first = ap (λ (span : Span). span.first) is in omega (arith, early)
 
     rows : span_rows heard bound 0 ≡ span_rows all (span_from all (length s) from.at) 0
     unfolding span_rows sounding stream_section
@@ -109,11 +109,11 @@ module _ (voice : Voice) (s : List ℕ) (fine : is_fine (body_of voice s) ≡ tr
     unfolding span_of
     many = ap length rows ∙ span_counts voice s fine section 0
 
-    pub onward-fits : length s ≤ 65536 → 0 + bound.messages < 18446744073709551616
-    onward-fits small = let size : bound.messages ≡ length s = ap (λ (span : Span). span.messages) is in omega arith
+    pub onward_fits : length s ≤ 65536 → 0 + bound.messages < 18446744073709551616
+    onward_fits small = let size : bound.messages ≡ length s = ap (λ (span : Span). span.messages) is in omega arith
 
-    pub onward-room : (room : ℕ) → length s / 3 ≤ room → 0 + length (span_rows (items_through from.at (items_of voice s)) bound 0) ≤ room
-    onward-room room h = omega (arith, many, thirds)
+    pub onward_room : (room : ℕ) → length s / 3 ≤ room → 0 + length (span_rows (items_through from.at (items_of voice s)) bound 0) ≤ room
+    onward_room room h = omega (arith, many, thirds)
 
     module _ (written : Written) (ended : Ended (items_through from.at (items_of voice s)) bound 0 0 written) where
       whole : written.time ≡ lasting heard
@@ -122,28 +122,28 @@ module _ (voice : Voice) (s : List ℕ) (fine : is_fine (body_of voice s) ≡ tr
           let some = body_not_empty voice s all (reads_to_items voice s fine) in
           ended.time (omega (arith, many, thirds))
 
-      pub onward-later : from.time ≤ written.time
-      onward-later = omega (arith, time_is, whole, heard-late voice s fine from.at came.walked.address)
+      pub onward_later : from.time ≤ written.time
+      onward_later = omega (arith, time_is, whole, heard_late voice s fine from.at came.walked.address)
 
       module _ (r : Span) (told : r ≡ span_on from written.row (written.time - from.time)) where
-        pub onward-is : r ≡ span_from (items_of voice s) (length s) from.at
+        pub onward_is : r ≡ span_from (items_of voice s) (length s) from.at
         unfolding stream_section
-        onward-is =
+        onward_is =
             let row : written.row ≡ length (messages_within section all) = omega (arith, ended.row, many) in
             let lasts : written.time - from.time ≡ lasts_in (onsets_after 0 all) section =
             omega (arith, whole, time_is, lasts_through section refl all refl) in
-            told ∙ span-like voice s from came section refl written.row (written.time - from.time) row lasts
+            told ∙ span_like voice s from came section refl written.row (written.time - from.time) row lasts
 
-        pub onward-few : r.messages ≤ length s / 3
-        onward-few = let row : r.messages ≡ written.row = ap (λ (span : Span). span.messages) told in omega (arith, ended.row, many, thirds)
+        pub onward_few : r.messages ≤ length s / 3
+        onward_few = let row : r.messages ≡ written.row = ap (λ (span : Span). span.messages) told in omega (arith, ended.row, many, thirds)
 
         module _ (l m : List ℕ) where
-          pub onward-steps : m ≡ sets l 0 (steps_of (span_rows (items_through from.at (items_of voice s)) bound 0)) → m ≡ sets l 0 (steps_of (span_rows (items_of voice s) r 0))
-          onward-steps e =
-              e ∙ ap (λ (x : List (At Event)). sets l 0 (steps_of x)) (rows ∙ ap (λ (span : Span). span_rows all span 0) (sym onward-is))
+          pub onward_steps : m ≡ sets l 0 (steps_of (span_rows (items_through from.at (items_of voice s)) bound 0)) → m ≡ sets l 0 (steps_of (span_rows (items_of voice s) r 0))
+          onward_steps e =
+              e ∙ ap (λ (x : List (At Event)). sets l 0 (steps_of x)) (rows ∙ ap (λ (span : Span). span_rows all span 0) (sym onward_is))
 
-          pub onward-words : m ≡ sets l 0 (words_of (span_rows (items_through from.at (items_of voice s)) bound 0)) → m ≡ sets l 0 (words_of (span_rows (items_of voice s) r 0))
-          onward-words e =
-              e ∙ ap (λ (x : List (At Event)). sets l 0 (words_of x)) (rows ∙ ap (λ (span : Span). span_rows all span 0) (sym onward-is))
+          pub onward_words : m ≡ sets l 0 (words_of (span_rows (items_through from.at (items_of voice s)) bound 0)) → m ≡ sets l 0 (words_of (span_rows (items_of voice s) r 0))
+          onward_words e =
+              e ∙ ap (λ (x : List (At Event)). sets l 0 (words_of x)) (rows ∙ ap (λ (span : Span). span_rows all span 0) (sym onward_is))
 
-pub ruleset onward = (onward-begins, onward-early, onward-fits, onward-room, onward-later, onward-is, onward-few, onward-steps, onward-words)
+pub ruleset onward = (onward_begins, onward_early, onward_fits, onward_room, onward_later, onward_is, onward_few, onward_steps, onward_words)

@@ -16,7 +16,7 @@ use Rattle.model.proofs.Tests.{by_test}
 use Rattle.model.proofs.Walks.{Stand}
 use Rattle.items.proofs.Addresses.{placed_at, stands_ahead}
 use Rattle.sections.specs.Spans.{Items, Rest, since, place_of, items_from}
-use Rattle.sections.proofs.InWords.{ItemInWord, item-in-word}
+use Rattle.sections.proofs.InWords.{ItemInWord, item_in_word}
 
 abbrev pub Standing : Voice → List ℕ → ℕ → Items → Type 0
 Standing voice s at items = Stand (length s) (item_step voice s) at items
@@ -46,13 +46,13 @@ module _ (voice : Voice) (s : List ℕ) where
       (λ t. simp t (at, omega arith, st))
 
   module _ (time past at : ℕ) (items : Items) (st : Standing voice s at items) where
-    pub first-stands : Standing voice s (place_of (length s) (since time past items).items) (since time past items).items
-    first-stands =
+    pub first_stands : Standing voice s (place_of (length s) (since time past items).items) (since time past items).items
+    first_stands =
         let r = since_stands time past at items st in
         subst (λ (n : ℕ). Standing voice s n (since time past items).items) (sym (place_stands r.0 (since time past items).items r.2)) r.2
 
-    pub first-ahead : at ≤ place_of (length s) (since time past items).items
-    first-ahead =
+    pub first_ahead : at ≤ place_of (length s) (since time past items).items
+    first_ahead =
         let r = since_stands time past at items st in
         subst (λ (n : ℕ). at ≤ n) (sym (place_stands r.0 (since time past items).items r.2)) r.1
 
@@ -73,7 +73,7 @@ module _ (voice : Voice) (s : List ℕ) where
       by_test (past + duration_of item.what <? time)
       (λ t.
       let a = stands_ahead voice s at item st.0 st.1 in
-      let f = first-ahead time (past + duration_of item.what) st.0 items st.2 in
+      let f = first_ahead time (past + duration_of item.what) st.0 items st.2 in
       let early : item.place < place_of (length s) (since time (past + duration_of item.what) items).items =
       omega (arith, placed_at voice s at item st.0 st.1) in
       let on : ◌≡◌ {A = Rest} (since time past (item ∷ items)) (since time (past + duration_of item.what) items) = simp t in
@@ -88,28 +88,28 @@ module _ (voice : Voice) (s : List ℕ) where
 
   -- an item takes at most the longest duration
   module _ (bytes : (k : ℕ) → s ! k < 256) (small : length s ≤ 65536) where
-    met-short : (at : ℕ) (j : ReadItem) (item : Placed (Item Event)) (next : ℕ) → ItemInWord j → item_met at j ≡ met item next → duration_of item.what ≤ 16511
+    met_short : (at : ℕ) (j : ReadItem) (item : Placed (Item Event)) (next : ℕ) → ItemInWord j → item_met at j ≡ met item next → duration_of item.what ≤ 16511
     unfolding item_met duration_of
-    met-short at (Timed duration event n) item next h e =
+    met_short at (Timed duration event n) item next h e =
         let same : ◌≡◌ {A = Placed (Item Event)} (record { place = at; what = timed duration event }) item = cc in
         subst (λ (i : Placed (Item Event)). duration_of i.what ≤ 16511) same h.0
-    met-short at (EndMark n) item next h e =
+    met_short at (EndMark n) item next h e =
         let same : ◌≡◌ {A = Placed (Item Event)} (record { place = at; what = end_mark }) item = cc in
         subst (λ (i : Placed (Item Event)). duration_of i.what ≤ 16511) same (omega arith)
-    met-short at (Refused number place) item next h e = let z : ◌≡◌ {A = ℕ} 0 1 = cc in absurd (omega arith)
+    met_short at (Refused number place) item next h e = let z : ◌≡◌ {A = ℕ} 0 1 = cc in absurd (omega arith)
 
-    pub item-short : (at : ℕ) (item : Placed (Item Event)) (next : ℕ) → item_step voice s at ≡ met item next → duration_of item.what ≤ 16511
+    pub item_short : (at : ℕ) (item : Placed (Item Event)) (next : ℕ) → item_step voice s at ≡ met item next → duration_of item.what ≤ 16511
     unfolding item_step
-    item-short at item next e = met-short at (item_at voice s at) item next (item-in-word s bytes small voice at) e
+    item_short at item next e = met_short at (item_at voice s at) item next (item_in_word s bytes small voice at) e
 
-    pub past-small : (time past at : ℕ) (items : Items) → Standing voice s at items → past ≤ 16511 * at
+    pub past_small : (time past at : ℕ) (items : Items) → Standing voice s at items → past ≤ 16511 * at
         → (since time past items).past ≤ 16511 * place_of (length s) (since time past items).items
     unfolding since if◌then◌else◌
-    past-small time past at [] st h = omega (arith, place_stands at [] st)
-    past-small time past at (item ∷ items) st h =
+    past_small time past at [] st h = omega (arith, place_stands at [] st)
+    past_small time past at (item ∷ items) st h =
         by_test (past + duration_of item.what <? time)
         (λ t.
         let a = stands_ahead voice s at item st.0 st.1 in
-        let d = item-short at item st.0 st.1 in
-        simp t (past-small time (past + duration_of item.what) st.0 items st.2 (omega arith)))
+        let d = item_short at item st.0 st.1 in
+        simp t (past_small time (past + duration_of item.what) st.0 items st.2 (omega arith)))
         (λ t. simp t (omega (arith, place_stands at (item ∷ items) st)))

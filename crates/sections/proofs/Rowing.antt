@@ -20,16 +20,16 @@ use Rattle.model.specs.declared.ReadItem.{ReadItem}
 use Rattle.model.specs.declared.ReadItem.TheVariants.{Timed, EndMark, Refused}
 use Rattle.model.specs.declared.Span.{Span}
 use Rattle.model.proofs.Picking.{through_here, through_on}
-use Rattle.items.proofs.Addresses.{timed-nears, mark-nears, reads_to_items}
+use Rattle.items.proofs.Addresses.{timed_nears, mark_nears, reads_to_items}
 use Rattle.items.proofs.Standing.{body_stands}
 use Rattle.sections.specs.Spans.{Items, since, place_of, mark_from, items_through, span_rows, steps_of, words_of, Begun, Ended}
 use Rattle.sections.specs.Taking.{AllBytes, taken_as, taken_mark, ItemAgrees}
 use Rattle.sections.specs.declared.Taken.{Taken}
-use Rattle.sections.proofs.Places.{first-stands, stands_within}
-use Rattle.sections.proofs.Cutting.{uncut-rows}
-use Rattle.sections.proofs.InWords.{ItemInWord, item-in-word}
+use Rattle.sections.proofs.Places.{first_stands, stands_within}
+use Rattle.sections.proofs.Cutting.{uncut_rows}
+use Rattle.sections.proofs.InWords.{ItemInWord, item_in_word}
 use Rattle.sections.proofs.Taking.{word_none, word_some}
-use Rattle.sections.proofs.Ahead.{Ahead, Onward, next_rows, message_next, nop_next, mark_next, none_left, playable_begins, span_begins, span_cut, nothing_ahead, timed-late, timed-onward, mark-late, mark-onward, never_refused}
+use Rattle.sections.proofs.Ahead.{Ahead, Onward, next_rows, message_next, nop_next, mark_next, none_left, playable_begins, span_begins, span_cut, nothing_ahead, timed_late, timed_onward, mark_late, mark_onward, never_refused}
 
 -- a span has no more rows than it says
 pub rows_room : (items : Items) (span : Span) (before at room : ℕ) → at + span.messages ≤ room → at + length (span_rows items span before) ≤ room
@@ -162,27 +162,27 @@ module _ (voice : Voice) (s : List ℕ) (span : Span) (marks before : ℕ) (l m 
 
   module _ (duration next : ℕ) (event : Event) (e : item_at voice s place ≡ Timed duration event next) where
     onward : Onward voice s span.start place time r.walk (timed duration event) next (time + duration)
-    onward = timed-onward voice s span.start place time r.walk duration next event e
+    onward = timed_onward voice s span.start place time r.walk duration next event e
 
     unmarked : mark_from marks (record { place = place; what = timed duration event }) ≡ false
     unfolding mark_from is_mark ◌and◌
     unmarked = refl
 
-    opens-on : items_through marks r.walk.rest ≡ record { place = place; what = timed duration event } ∷ items_through marks onward.0.rest
-    opens-on = opened (timed duration event) next (time + duration) onward unmarked
+    opens_on : items_through marks r.walk.rest ≡ record { place = place; what = timed duration event } ∷ items_through marks onward.0.rest
+    opens_on = opened (timed duration event) next (time + duration) onward unmarked
 
-    row-lasts : time + duration + lasting (items_through marks onward.0.rest) ≡ lasting (cut_at voice s marks)
+    row_lasts : time + duration + lasting (items_through marks onward.0.rest) ≡ lasting (cut_at voice s marks)
     unfolding duration_of
-    row-lasts = lasts_on (timed duration event) next (time + duration) onward unmarked refl
+    row_lasts = lasts_on (timed duration event) next (time + duration) onward unmarked refl
 
-    row-in-word : InWord event
-    row-in-word = (subst ItemInWord e (item-in-word s r.walk.bytes r.walk.small voice place)).1
+    row_in_word : InWord event
+    row_in_word = (subst ItemInWord e (item_in_word s r.walk.bytes r.walk.small voice place)).1
 
-    row-silent : is_message event ≡ false → Rowing voice s span marks before l m at end out outs row next (time + duration)
-    row-silent h =
+    row_silent : is_message event ≡ false → Rowing voice s span marks before l m at end out outs row next (time + duration)
+    row_silent h =
         silent next (time + duration) onward.0
-        (nop_next before span.start (end - row) time place (items_through marks r.walk.rest) (items_through marks onward.0.rest) duration event opens-on h)
-        row-lasts
+        (nop_next before span.start (end - row) time place (items_through marks r.walk.rest) (items_through marks onward.0.rest) duration event opens_on h)
+        row_lasts
 
     module _ (more : row ≡ end → ⊥) (h : is_message event ≡ true) where
       abbrev later : List (At Event)
@@ -192,25 +192,25 @@ module _ (voice : Voice) (s : List ℕ) (span : Span) (marks before : ℕ) (l m 
           ≡ record { step = before + (time + duration - span.start); event = event } ∷ later
       opens =
           message_next before span.start (end - row) time place (items_through marks r.walk.rest) (items_through marks onward.0.rest) (end - suc row) duration
-          event opens-on
+          event opens_on
           (omega (arith, r.few)) h
 
       counts : suc row + length later ≡ at + length (span_rows (cut_at voice s marks) span before)
       counts = let one = ap length opens in omega (arith, r.count)
 
-      row-room-steps : row < length out
-      row-room-steps = omega (arith, counts, r.room_steps)
+      row_room_steps : row < length out
+      row_room_steps = omega (arith, counts, r.room_steps)
 
-      row-room-words : row < length outs
-      row-room-words = omega (arith, counts, r.room_words)
+      row_room_words : row < length outs
+      row_room_words = omega (arith, counts, r.room_words)
 
-      row-sounds : (m₁ m₂ : List ℕ) → m₁ ≡ set out row (before + (time + duration - span.start))
+      row_sounds : (m₁ m₂ : List ℕ) → m₁ ≡ set out row (before + (time + duration - span.start))
           → m₂ ≡ set outs row (word_of event) → Rowing voice s span marks before l m at end m₁ m₂ (row + 1) next (time + duration)
       unfolding steps_of words_of
-      row-sounds m₁ m₂ p₁ p₂ =
+      row_sounds m₁ m₂ p₁ p₂ =
           record {
             walk = onward.0;
-            lasts = row-lasts;
+            lasts = row_lasts;
             ends = r.ends;
             few = omega (arith, r.few);
             fits = r.fits;
@@ -225,37 +225,37 @@ module _ (voice : Voice) (s : List ℕ) (span : Span) (marks before : ℕ) (l m 
 
   -- an end mark, which a walk passes or where it ends
   module _ (next : ℕ) (e : item_at voice s place ≡ EndMark next) where
-    on-mark : Onward voice s span.start place time r.walk end_mark next time
-    on-mark = mark-onward voice s span.start place time r.walk next e
+    on_mark : Onward voice s span.start place time r.walk end_mark next time
+    on_mark = mark_onward voice s span.start place time r.walk next e
 
-    mark-is : mark_from marks (record { place = place; what = end_mark }) ≡ (marks ≤? place)
+    mark_is : mark_from marks (record { place = place; what = end_mark }) ≡ (marks ≤? place)
     unfolding mark_from is_mark ◌and◌
-    mark-is = refl
+    mark_is = refl
 
-    row-passes : (marks ≤? place) ≡ false → Rowing voice s span marks before l m at end out outs row next time
+    row_passes : (marks ≤? place) ≡ false → Rowing voice s span marks before l m at end out outs row next time
     unfolding duration_of
-    row-passes h =
-        let unmarked = mark-is ∙ h in
-        silent next time on-mark.0
-        (mark_next before span.start (end - row) time place (items_through marks r.walk.rest) (items_through marks on-mark.0.rest)
-        (opened end_mark next time on-mark unmarked))
-        (lasts_on end_mark next time on-mark unmarked (add-zero time))
+    row_passes h =
+        let unmarked = mark_is ∙ h in
+        silent next time on_mark.0
+        (mark_next before span.start (end - row) time place (items_through marks r.walk.rest) (items_through marks on_mark.0.rest)
+        (opened end_mark next time on_mark unmarked))
+        (lasts_on end_mark next time on_mark unmarked (add-zero time))
 
     module _ (h : (marks ≤? place) ≡ true) where
       last_one : items_through marks r.walk.rest ≡ record { place = place; what = end_mark } ∷ []
-      last_one = ap (items_through marks) on-mark.1 ∙ through_here (mark_from marks) _ on-mark.0.rest (mark-is ∙ h)
+      last_one = ap (items_through marks) on_mark.1 ∙ through_here (mark_from marks) _ on_mark.0.rest (mark_is ∙ h)
 
       no_more : next_rows before span.start (end - row) time (items_through marks r.walk.rest) ≡ []
       no_more =
           mark_next before span.start (end - row) time place (items_through marks r.walk.rest) [] last_one
           ∙ none_left before span.start (end - row) time
 
-      mark-lasts : lasting (items_through marks r.walk.rest) ≡ 0
+      mark_lasts : lasting (items_through marks r.walk.rest) ≡ 0
       unfolding lasting sum duration_of
-      mark-lasts = ap lasting last_one
+      mark_lasts = ap lasting last_one
 
-      ended-mark : Ended (cut_at voice s marks) span before at (record { row = row; time = time })
-      ended-mark = record { row = (nothing_left _ refl no_more).2; time = λ fewer. omega (arith, mark-lasts, r.lasts) }
+      ended_mark : Ended (cut_at voice s marks) span before at (record { row = row; time = time })
+      ended_mark = record { row = (nothing_left _ refl no_more).2; time = λ fewer. omega (arith, mark_lasts, r.lasts) }
 
   -- an item that is taken as plain numbers
   module _ (taken : Taken) (here : place < length s) (agrees : ItemAgrees taken (item_at voice s place)) where
@@ -270,28 +270,28 @@ module _ (voice : Voice) (s : List ℕ) (span : Span) (marks before : ℕ) (l m 
         go (EndMark next) e a = subst X (sym a) (marked-so next e)
         go (Refused number there) e a = absurd (never_refused voice s span.start place time r.walk number there here e)
 
-    pub took-nears : length s - taken.next < length s - place
-    took-nears =
+    pub took_nears : length s - taken.next < length s - place
+    took_nears =
         by_cases (λ taken. length s - taken.next < length s - place)
-        (λ duration next event e. timed-nears voice s place (item_at voice s place) refl duration next event e)
-        (λ next e. mark-nears voice s place (item_at voice s place) refl next e)
+        (λ duration next event e. timed_nears voice s place (item_at voice s place) refl duration next event e)
+        (λ next e. mark_nears voice s place (item_at voice s place) refl next e)
 
-    pub took-not-before : span.start ≤ time + taken.duration
-    took-not-before =
+    pub took_not_before : span.start ≤ time + taken.duration
+    took_not_before =
         by_cases (λ taken. span.start ≤ time + taken.duration)
-        (λ duration next event e. timed-late voice s span.start place time r.walk duration next event e)
-        (λ next e. mark-late voice s span.start place time r.walk next e)
+        (λ duration next event e. timed_late voice s span.start place time r.walk duration next event e)
+        (λ next e. mark_late voice s span.start place time r.walk next e)
 
     module _ (flag : Bool) (so : flag ≡ (taken.mark and (marks ≤? place))) where
-      pub took-silent : taken.word ≡ 0 → flag ≡ false → Rowing voice s span marks before l m at end out outs row taken.next (time + taken.duration)
+      pub took_silent : taken.word ≡ 0 → flag ≡ false → Rowing voice s span marks before l m at end out outs row taken.next (time + taken.duration)
       unfolding ◌and◌
-      took-silent none off =
+      took_silent none off =
           by_cases (λ taken. taken.word ≡ 0 → (taken.mark and (marks ≤? place)) ≡ false
           → Rowing voice s span marks before l m at end out outs row taken.next (time + taken.duration))
           (λ duration next event e none off.
-          let there = row-in-word duration next event e in
-          row-silent duration next event e (word_none event there none))
-          (λ next e none off. subst (Rowing voice s span marks before l m at end out outs row next) (sym (add-zero time)) (row-passes next e off))
+          let there = row_in_word duration next event e in
+          row_silent duration next event e (word_none event there none))
+          (λ next e none off. subst (Rowing voice s span marks before l m at end out outs row next) (sym (add-zero time)) (row_passes next e off))
           none (sym so ∙ off)
 
       module _ (on : flag ≡ true) where
@@ -304,68 +304,68 @@ module _ (voice : Voice) (s : List ℕ) (span : Span) (marks before : ℕ) (l m 
             (λ next e on. (next, e, on, add-zero time))
             (sym so ∙ on)
 
-        nothing-more : next_rows before span.start (end - row) time (items_through marks r.walk.rest) ≡ []
-        nothing-more = no_more at_mark.0 at_mark.1 at_mark.2
+        nothing_more : next_rows before span.start (end - row) time (items_through marks r.walk.rest) ≡ []
+        nothing_more = no_more at_mark.0 at_mark.1 at_mark.2
 
-        pub steps-marked : out ≡ sets l at (steps_of (span_rows (cut_at voice s marks) span before))
-        steps-marked = (nothing_left _ refl nothing-more).0
+        pub steps_marked : out ≡ sets l at (steps_of (span_rows (cut_at voice s marks) span before))
+        steps_marked = (nothing_left _ refl nothing_more).0
 
-        pub words-marked : outs ≡ sets m at (words_of (span_rows (cut_at voice s marks) span before))
-        words-marked = (nothing_left _ refl nothing-more).1
+        pub words_marked : outs ≡ sets m at (words_of (span_rows (cut_at voice s marks) span before))
+        words_marked = (nothing_left _ refl nothing_more).1
 
-        pub ended-marked : Ended (cut_at voice s marks) span before at (record { row = row; time = time + taken.duration })
-        ended-marked =
+        pub ended_marked : Ended (cut_at voice s marks) span before at (record { row = row; time = time + taken.duration })
+        ended_marked =
             subst (λ (t : ℕ). Ended (cut_at voice s marks) span before at (record { row = row; time = t })) (sym at_mark.3)
-            (ended-mark at_mark.0 at_mark.1 at_mark.2)
+            (ended_mark at_mark.0 at_mark.1 at_mark.2)
 
     module _ (more : row ≡ end → ⊥) (some : taken.word ≡ 0 → ⊥) where
-      took-room : (row < length out) × (row < length outs)
-      took-room =
+      took_room : (row < length out) × (row < length outs)
+      took_room =
           by_cases (λ taken. (taken.word ≡ 0 → ⊥) → (row < length out) × (row < length outs))
           (λ duration next event e some.
           let m = word_some event some in (
-            row-room-steps duration next event e more m,
-            row-room-words duration next event e more m,
+            row_room_steps duration next event e more m,
+            row_room_words duration next event e more m,
           ))
           (λ next e some. absurd (some refl))
           some
 
-      pub took-room-steps : row < length out
-      took-room-steps = took-room.0
+      pub took_room_steps : row < length out
+      took_room_steps = took_room.0
 
-      pub took-room-words : row < length outs
-      took-room-words = took-room.1
+      pub took_room_words : row < length outs
+      took_room_words = took_room.1
 
-      pub took-sounds : (m₁ m₂ : List ℕ) → m₁ ≡ set out row (before + (time + taken.duration - span.start)) → m₂ ≡ set outs row taken.word
+      pub took_sounds : (m₁ m₂ : List ℕ) → m₁ ≡ set out row (before + (time + taken.duration - span.start)) → m₂ ≡ set outs row taken.word
           → Rowing voice s span marks before l m at end m₁ m₂ (row + 1) taken.next (time + taken.duration)
-      took-sounds m₁ m₂ =
+      took_sounds m₁ m₂ =
           by_cases (λ taken. (taken.word ≡ 0 → ⊥) → m₁ ≡ set out row (before + (time + taken.duration - span.start)) → m₂ ≡ set outs row taken.word
           → Rowing voice s span marks before l m at end m₁ m₂ (row + 1) taken.next (time + taken.duration))
           (λ duration next event e some p₁ p₂.
-          row-sounds duration next event e more (word_some event some) m₁ m₂ p₁ p₂)
+          row_sounds duration next event e more (word_some event some) m₁ m₂ p₁ p₂)
           (λ next e some p₁ p₂. absurd (some refl))
           some
 
   pub row_bytes_lem : AllBytes s
   row_bytes_lem = r.walk.bytes
 
-pub ruleset row_turns = (row_bytes_lem, took-nears, took-not-before, took-silent, took-room-steps, took-room-words, took-sounds)
+pub ruleset row_turns = (row_bytes_lem, took_nears, took_not_before, took_silent, took_room_steps, took_room_words, took_sounds)
 
-pub ruleset row_ends = (steps_full, words_full, ended_full, steps_over, words_over, ended_over, steps-marked, words-marked, ended-marked)
+pub ruleset row_ends = (steps_full, words_full, ended_full, steps_over, words_over, ended_over, steps_marked, words_marked, ended_marked)
 
 -- where no mark ends it
 module _ (voice : Voice) (s : List ℕ) (fine : is_fine (body_of voice s) ≡ true) (span : Span) where
   pub begins_within : Begun (items_of voice s) (length s) span → span.first ≤ length s
   begins_within begun =
       let left = (since span.start 0 (items_of voice s)).items in
-      let st = first-stands voice s span.start 0 0 (items_of voice s) (body_stands voice s (items_of voice s) (reads_to_items voice s fine)) in
+      let st = first_stands voice s span.start 0 0 (items_of voice s) (body_stands voice s (items_of voice s) (reads_to_items voice s fine)) in
       omega (arith, begun.first, stands_within voice s (place_of (length s) left) left st)
 
   module _ (before at : ℕ) (l m : List ℕ) where
-    pub steps-uncut : m ≡ sets l at (steps_of (span_rows (items_through (length s) (items_of voice s)) span before)) → m ≡ sets l at (steps_of (span_rows (items_of voice s) span before))
-    steps-uncut e = e ∙ ap (λ (rows : List (At Event)). sets l at (steps_of rows)) (uncut-rows voice s fine span before)
+    pub steps_uncut : m ≡ sets l at (steps_of (span_rows (items_through (length s) (items_of voice s)) span before)) → m ≡ sets l at (steps_of (span_rows (items_of voice s) span before))
+    steps_uncut e = e ∙ ap (λ (rows : List (At Event)). sets l at (steps_of rows)) (uncut_rows voice s fine span before)
 
-    pub words-uncut : m ≡ sets l at (words_of (span_rows (items_through (length s) (items_of voice s)) span before)) → m ≡ sets l at (words_of (span_rows (items_of voice s) span before))
-    words-uncut e = e ∙ ap (λ (rows : List (At Event)). sets l at (words_of rows)) (uncut-rows voice s fine span before)
+    pub words_uncut : m ≡ sets l at (words_of (span_rows (items_through (length s) (items_of voice s)) span before)) → m ≡ sets l at (words_of (span_rows (items_of voice s) span before))
+    words_uncut e = e ∙ ap (λ (rows : List (At Event)). sets l at (words_of rows)) (uncut_rows voice s fine span before)
 
-pub ruleset row_begins = (playable_begins, rows_room, begins_within, steps-uncut, words-uncut)
+pub ruleset row_begins = (playable_begins, rows_room, begins_within, steps_uncut, words_uncut)

@@ -21,7 +21,7 @@ use Rattle.model.proofs.Tests.{by_test}
 use Rattle.items.proofs.Addresses.{stands_ahead, stands_far, reads_to_items}
 use Rattle.items.proofs.Standing.{body_stands}
 use Rattle.sections.specs.Spans.{Items, span_of, passage_of, passage_between, span_from, Small}
-use Rattle.sections.proofs.Places.{Standing, item-short}
+use Rattle.sections.proofs.Places.{Standing, item_short}
 use Rattle.sections.proofs.Marks.{lasts_within}
 use Rattle.sections.proofs.Stretches.{cut_few}
 use Rattle.sections.proofs.Nearing.{heard_one, says}
@@ -48,32 +48,32 @@ module _ (voice : Voice) (s : List ℕ) where
       by_test (test (record { step = onset; event = item })) (λ t. simp t (omega arith)) (λ t. simp t (omega arith))
 
   module _ (bytes : (k : ℕ) → s ! k < 256) (small : length s ≤ 65536) where
-    pub lasting-short : (at : ℕ) (items : Items) → Standing voice s at items → lasting items + 16511 * at ≤ 16511 * length s
+    pub lasting_short : (at : ℕ) (items : Items) → Standing voice s at items → lasting items + 16511 * at ≤ 16511 * length s
     unfolding lasting sum
-    lasting-short at [] st = omega arith
-    lasting-short at (item ∷ items) st =
+    lasting_short at [] st = omega arith
+    lasting_short at (item ∷ items) st =
         let a = stands_ahead voice s at item st.0 st.1 in
-        let d = item-short voice s bytes small at item st.0 st.1 in
-        let rest = lasting-short st.0 items st.2 in
+        let d = item_short voice s bytes small at item st.0 st.1 in
+        let rest = lasting_short st.0 items st.2 in
         omega arith
 
     module _ (fine : is_fine (body_of voice s) ≡ true) where
-      section-small : (section : Section) → section.lasts ≤ lasting (items_of voice s) → Small (length s) (span_of (items_of voice s) (length s) section)
+      section_small : (section : Section) → section.lasts ≤ lasting (items_of voice s) → Small (length s) (span_of (items_of voice s) (length s) section)
       unfolding span_of items_within
-      section-small section h =
+      section_small section h =
           let items = items_of voice s in
           let st = body_stands voice s items (reads_to_items voice s fine) in
           let few = messages_few (λ at. is_within section at.step) 0 0 items st in
           let cut = cut_few (λ at. is_within section at.step) (reaches section) (onsets_after 0 items) in
-          let all = lasting-short 0 items st in
+          let all = lasting_short 0 items st in
           record { few = omega arith; short = omega (arith, lasts_within section items h) }
 
-      pub between-small : (r : Passage) (start stop : ℕ) → r ≡ passage_between (items_of voice s) (length s) start stop → Small (length s) r.span
+      pub between_small : (r : Passage) (start stop : ℕ) → r ≡ passage_between (items_of voice s) (length s) start stop → Small (length s) r.span
       unfolding passage_of between time_of
-      between-small r start stop e =
+      between_small r start stop e =
           let whole = kept_lasting (λ item. item.place <? stop) (items_of voice s) in
-          subst (λ (x : Passage). Small (length s) x.span) (sym e) (section-small (between (items_of voice s) start stop) (omega arith))
+          subst (λ (x : Passage). Small (length s) x.span) (sym e) (section_small (between (items_of voice s) start stop) (omega arith))
 
-      pub stream-small : (r : Span) (start : ℕ) → r ≡ span_from (items_of voice s) (length s) start → Small (length s) r
+      pub stream_small : (r : Span) (start : ℕ) → r ≡ span_from (items_of voice s) (length s) start → Small (length s) r
       unfolding stream_section
-      stream-small r start e = subst (Small (length s)) (sym e) (section-small (stream_section (items_of voice s) start none) (omega arith))
+      stream_small r start e = subst (Small (length s)) (sym e) (section_small (stream_section (items_of voice s) start none) (omega arith))

@@ -112,15 +112,15 @@ module _ (voice : Voice) (s : List ℕ) where
     stand : Standing voice s 0 all
     stand = body_stands voice s all (reads_to_items voice s fine)
 
-    pub head-walked : (r : Reached) → r ≡ at_head → Walked all (length s) r
+    pub head_walked : (r : Reached) → r ≡ at_head → Walked all (length s) r
     unfolding is_address
-    head-walked r e =
+    head_walked r e =
         subst (Walked all (length s)) (sym e)
         (record { is = walking_is voice s at_head all (walking_starts voice s fine); address = one_there voice s 0 all stand; small = omega arith })
 
     -- an address is at most the body's size
-    pub address-within : (address : ℕ) → is_address all (length s) address ≡ true → address ≤ length s
-    address-within address is =
+    pub address_within : (address : ℕ) → is_address all (length s) address ≡ true → address ≤ length s
+    address_within address is =
         let r = reach voice s all _ (walking_starts voice s fine) address (omega arith) is in
         omega (arith, r.3, stands_within voice s r.0.at r.1 r.2.stands)
 
@@ -142,9 +142,9 @@ module _ (voice : Voice) (s : List ℕ) where
         (r.1, r.2.split ∙ ap (λ (n : ℕ). items_to n all ++ r.1) r.3)
 
     -- what is heard from an address on does not end before it
-    pub heard-late : (address : ℕ) → is_address all (length s) address ≡ true → time_of all address ≤ lasting (items_through address all)
+    pub heard_late : (address : ℕ) → is_address all (length s) address ≡ true → time_of all address ≤ lasting (items_through address all)
     unfolding time_of
-    heard-late address is =
+    heard_late address is =
         let q = split_at address is in
         let front = items_to address all in
         let cut : items_through address all ≡ front ++ items_through address q.0 =
@@ -152,29 +152,29 @@ module _ (voice : Voice) (s : List ℕ) where
         omega (arith, ap lasting cut, lasting_append front (items_through address q.0))
 
   module _ (marks address : ℕ) (r : Reached) (came : Arrived all (length s) marks address r) where
-    pub arrived-walked : Walked (items_of voice s) (length s) r
-    arrived-walked = came.walked
+    pub arrived_walked : Walked (items_of voice s) (length s) r
+    arrived_walked = came.walked
 
-    pub arrived-near : r.at ≤ address
-    arrived-near = came.near
+    pub arrived_near : r.at ≤ address
+    arrived_near = came.near
 
     -- what was walked through
     abbrev cut : Items
     cut = items_through marks (items_to address all)
 
-    cut-time : r.time ≡ lasting cut
+    cut_time : r.time ≡ lasting cut
     unfolding reached_of time_of
-    cut-time = ap (λ (x : Reached). x.time) came.walked.is ∙ ap lasting came.behind
+    cut_time = ap (λ (x : Reached). x.time) came.walked.is ∙ ap lasting came.behind
 
-    cut-messages : r.messages ≡ length (messages_after 0 cut)
+    cut_messages : r.messages ≡ length (messages_after 0 cut)
     unfolding reached_of
-    cut-messages = ap (λ (x : Reached). x.messages) came.walked.is ∙ ap (λ (l : Items). length (messages_after 0 l)) came.behind
+    cut_messages = ap (λ (x : Reached). x.messages) came.walked.is ∙ ap (λ (l : Items). length (messages_after 0 l)) came.behind
 
     -- what is early is all in it
     module _ (fine : is_fine (body_of voice s) ≡ true) (time : ℕ) (late : time ≤ lasting cut) where
-      cut-early : messages_to time 0 cut ≡ messages_to time 0 all
+      cut_early : messages_to time 0 cut ≡ messages_to time 0 all
       unfolding is_below
-      cut-early =
+      cut_early =
           let q = split_at fine r.at came.walked.address in
           let split : all ≡ cut ++ q.0 = q.1 ∙ ap (λ (front : Items). front ++ q.0) came.behind in
           ap (λ (l : Onsets Event). length (messages_of is_message l))
@@ -193,22 +193,22 @@ module _ (voice : Voice) (s : List ℕ) where
       cut_apart =
           ap (λ (l : Onsets Event). length (messages_of is_message l)) (sym whole)
           ∙ counted_apart section under (onsets_after 0 cut)
-          ∙ ap (λ (n : ℕ). n + length (messages_of is_message (keep (within section) (onsets_after 0 cut)))) (cut-early fine section.from late)
+          ∙ ap (λ (n : ℕ). n + length (messages_of is_message (keep (within section) (onsets_after 0 cut)))) (cut_early fine section.from late)
 
   -- a walk that reached an address, whatever it was told of it
   module _ (start : ℕ) (from : Reached) (came : Arrived all (length s) start start from) where
-    pub at-start : (stop : ℕ) → start ≤ stop → from.at ≤ stop
-    at-start stop h = omega (arith, arrived_at start from came)
+    pub at_start : (stop : ℕ) → start ≤ stop → from.at ≤ stop
+    at_start stop h = omega (arith, arrived_at start from came)
 
-    pub arrived-there : Arrived (items_of voice s) (length s) from.at from.at from
-    arrived-there = subst (λ (n : ℕ). Arrived all (length s) n n from) (sym (arrived_at start from came)) came
+    pub arrived_there : Arrived (items_of voice s) (length s) from.at from.at from
+    arrived_there = subst (λ (n : ℕ). Arrived all (length s) n n from) (sym (arrived_at start from came)) came
 
-    pub passage-from : (stop : ℕ) (r : Passage) → r ≡ passage_between (items_of voice s) (length s) from.at stop
+    pub passage_from : (stop : ℕ) (r : Passage) → r ≡ passage_between (items_of voice s) (length s) from.at stop
         → r ≡ passage_between (items_of voice s) (length s) start stop
-    passage-from stop r e = e ∙ ap (λ (n : ℕ). passage_between all (length s) n stop) (arrived_at start from came)
+    passage_from stop r e = e ∙ ap (λ (n : ℕ). passage_between all (length s) n stop) (arrived_at start from came)
 
-    pub span-from : (r : Span) → r ≡ span_from (items_of voice s) (length s) from.at → r ≡ span_from (items_of voice s) (length s) start
-    span-from r e = e ∙ ap (span_from all (length s)) (arrived_at start from came)
+    pub span_from_lem : (r : Span) → r ≡ span_from (items_of voice s) (length s) from.at → r ≡ span_from (items_of voice s) (length s) start
+    span_from_lem r e = e ∙ ap (span_from all (length s)) (arrived_at start from came)
 
   module _ (from : Reached) (came : Arrived (items_of voice s) (length s) from.at from.at from) where
     abbrev start : ℕ
@@ -217,34 +217,34 @@ module _ (voice : Voice) (s : List ℕ) where
     there : from ≡ reached_of all (length s) start
     there = came.walked.is
 
-    pub from-time : from.time ≡ time_of all start
+    pub from_time : from.time ≡ time_of all start
     unfolding reached_of
-    from-time = ap (λ (x : Reached). x.time) there
+    from_time = ap (λ (x : Reached). x.time) there
 
-    from-passed : from.passed ≡ messages_to (time_of all start) 0 all
+    from_passed : from.passed ≡ messages_to (time_of all start) 0 all
     unfolding reached_of
-    from-passed = ap (λ (x : Reached). x.passed) there
+    from_passed = ap (λ (x : Reached). x.passed) there
 
     -- a walk from there on is not behind it
-    cut-late : (marks address : ℕ) (r : Reached) → Arrived all (length s) marks address r → from.at ≤ r.at → time_of all start ≤ lasting (items_through marks (items_to address all))
+    cut_late : (marks address : ℕ) (r : Reached) → Arrived all (length s) marks address r → from.at ≤ r.at → time_of all start ≤ lasting (items_through marks (items_to address all))
     unfolding time_of
-    cut-late marks address r there after =
+    cut_late marks address r there after =
         let grows = times_grow start r.at all after in
         let same = ap lasting there.behind in
         omega arith
 
     -- the parts of a span from a time on
-    abbrev spanFromTime : ℕ → ℕ → ℕ → Span
-    spanFromTime time messages lasts =
+    abbrev span_from_time : ℕ → ℕ → ℕ → Span
+    span_from_time time messages lasts =
         record { first = place_of (length s) (since time 0 all).items; past = (since time 0 all).past; start = time; messages = messages; lasts = lasts }
 
-    pub span-like : (section : Section) → section.from ≡ time_of all start → (messages lasts : ℕ) → messages ≡ length (messages_within section all)
+    pub span_like : (section : Section) → section.from ≡ time_of all start → (messages lasts : ℕ) → messages ≡ length (messages_within section all)
         → lasts ≡ lasts_in (onsets_after 0 all) section → span_on from messages lasts ≡ span_of all (length s) section
     unfolding span_of reached_of
-    span-like section begins messages lasts m l =
+    span_like section begins messages lasts m l =
         ap (λ (x : Reached). span_on x messages lasts) there
-        ∙ ap (λ (t : ℕ). spanFromTime t messages lasts) (sym begins)
-        ∙ ap₂ (spanFromTime section.from) m l
+        ∙ ap (λ (t : ℕ). span_from_time t messages lasts) (sym begins)
+        ∙ ap₂ (span_from_time section.from) m l
 
     -- BETWEEN TWO ADDRESSES, where a walk from the first went through a mark, or to the second, and another to the second
     module _ (fine : is_fine (body_of voice s) ≡ true) (stop : ℕ) (went to : Reached) (walk : Arrived all (length s) start stop went)
@@ -263,20 +263,20 @@ module _ (voice : Voice) (s : List ℕ) where
       unfolding between
       bounded = refl
 
-      to-time : to.time ≡ time_of all stop
+      to_time : to.time ≡ time_of all stop
       unfolding reached_of
-      to-time = ap (λ (x : Reached). x.time) (arrived_is stop to stopped)
+      to_time = ap (λ (x : Reached). x.time) (arrived_is stop to stopped)
 
-      to-passed : to.passed ≡ messages_to (time_of all stop) 0 all
+      to_passed : to.passed ≡ messages_to (time_of all stop) 0 all
       unfolding reached_of
-      to-passed = ap (λ (x : Reached). x.passed) (arrived_is stop to stopped)
+      to_passed = ap (λ (x : Reached). x.passed) (arrived_is stop to stopped)
 
       grows : time_of all start ≤ time_of all stop
       unfolding time_of
       grows = times_grow start stop all ordered
 
       late : time_of all start ≤ lasting walked
-      late = cut-late start stop went walk after
+      late = cut_late start stop went walk after
 
       under : (onset : ℕ) → onset < section.from → is_below onset section.to ≡ true
       unfolding between is_below
@@ -285,95 +285,95 @@ module _ (voice : Voice) (s : List ℕ) where
       rest : (others : Items) × (all ≡ items_to stop all ++ others)
       rest = split_at fine stop (ap (is_address all (length s)) (sym (arrived_at stop to stopped)) ∙ stopped.walked.address)
 
-      pub went-later : from.time ≤ went.time
-      went-later = omega (arith, from-time, cut-time start stop went walk, late)
+      pub went_later : from.time ≤ went.time
+      went_later = omega (arith, from_time, cut_time start stop went walk, late)
 
-      pub stop-later : from.time ≤ to.time
-      stop-later = omega (arith, from-time, to-time, grows)
+      pub stop_later : from.time ≤ to.time
+      stop_later = omega (arith, from_time, to_time, grows)
 
-      pub went-heard : from.passed ≤ went.messages
-      went-heard =
+      pub went_heard : from.passed ≤ went.messages
+      went_heard =
           let few = kept_few (λ at. at.step <? time_of all start) (onsets_after 0 walked) in
-          omega (arith, from-passed, cut-messages start stop went walk, cut-early start stop went walk fine (time_of all start) late, few)
+          omega (arith, from_passed, cut_messages start stop went walk, cut_early start stop went walk fine (time_of all start) late, few)
 
       -- what would be played if no mark were reached
       unmarked : to.passed ≡ from.passed + length (messages_of is_message (keep (within section) (onsets_after 0 all)))
       unfolding between is_below
-      unmarked = omega (arith, to-passed, from-passed, counted_apart section under (onsets_after 0 all))
+      unmarked = omega (arith, to_passed, from_passed, counted_apart section under (onsets_after 0 all))
 
-      pub stop-passed : from.passed ≤ to.passed
-      stop-passed = omega (arith, unmarked)
+      pub stop_passed : from.passed ≤ to.passed
+      stop_passed = omega (arith, unmarked)
 
       -- a mark is reached
       module _ (early : went.time < to.time) where
-        cut-here : Cut section (time_of all stop) bounded 0 (items_to stop all) rest.0
+        cut_here : Cut section (time_of all stop) bounded 0 (items_to stop all) rest.0
         unfolding between time_of
-        cut-here = reached section (time_of all stop) bounded 0 (items_to stop all) rest.0 (omega arith) (omega (arith, cut-time start stop went walk, to-time))
+        cut_here = reached section (time_of all stop) bounded 0 (items_to stop all) rest.0 (omega arith) (omega (arith, cut_time start stop went walk, to_time))
 
-        cut-onsets : through (reaches section) (onsets_after 0 all) ≡ onsets_after 0 walked
+        cut_onsets : through (reaches section) (onsets_after 0 all) ≡ onsets_after 0 walked
         unfolding between
-        cut-onsets = ap (λ (l : Items). through (reaches section) (onsets_after 0 l)) rest.1 ∙ cut-here.items
+        cut_onsets = ap (λ (l : Items). through (reaches section) (onsets_after 0 l)) rest.1 ∙ cut_here.items
 
-        mark-met : first (reaches section) (onsets_after 0 all) ≡ some cut-here.mark
-        mark-met = ap (λ (l : Items). first (reaches section) (onsets_after 0 l)) rest.1 ∙ cut-here.is
+        mark_met : first (reaches section) (onsets_after 0 all) ≡ some cut_here.mark
+        mark_met = ap (λ (l : Items). first (reaches section) (onsets_after 0 l)) rest.1 ∙ cut_here.is
 
-        all-below : keep (below section.to) (onsets_after 0 walked) ≡ onsets_after 0 walked
+        all_below : keep (below section.to) (onsets_after 0 walked) ≡ onsets_after 0 walked
         unfolding between
-        all-below = below_kept (time_of all stop) 0 walked (omega (arith, cut-time start stop went walk, to-time))
+        all_below = below_kept (time_of all stop) 0 walked (omega (arith, cut_time start stop went walk, to_time))
 
-        many-cut : went.messages - from.passed ≡ length (messages_within section all)
+        many_cut : went.messages - from.passed ≡ length (messages_within section all)
         unfolding items_within between
-        many-cut =
-            let apart = cut_apart start stop went walk fine section late under all-below in
-            let same = ap (λ (l : Onsets Event). length (messages_of is_message (keep (within section) l))) cut-onsets in
-            omega (arith, cut-messages start stop went walk, from-passed, apart, same)
+        many_cut =
+            let apart = cut_apart start stop went walk fine section late under all_below in
+            let same = ap (λ (l : Onsets Event). length (messages_of is_message (keep (within section) l))) cut_onsets in
+            omega (arith, cut_messages start stop went walk, from_passed, apart, same)
 
-        lasts-cut : went.time - from.time ≡ lasts_in (onsets_after 0 all) section
+        lasts_cut : went.time - from.time ≡ lasts_in (onsets_after 0 all) section
         unfolding lasts_in lasts_to between
-        lasts-cut =
-            let onset = cut-here.onset in
-            let time : went.time - from.time ≡ cut-here.mark.step - time_of all start = omega (arith, cut-time start stop went walk, from-time, onset) in
-            time ∙ ap (lasts_to section) (sym mark-met)
+        lasts_cut =
+            let onset = cut_here.onset in
+            let time : went.time - from.time ≡ cut_here.mark.step - time_of all start = omega (arith, cut_time start stop went walk, from_time, onset) in
+            time ∙ ap (lasts_to section) (sym mark_met)
 
-        reaches-is : record { span = span_to from went.messages went.time; stops = true } ≡ passage_of all (length s) section
+        reaches_is : record { span = span_to from went.messages went.time; stops = true } ≡ passage_of all (length s) section
         unfolding passage_of span_to stops_in
-        reaches-is =
+        reaches_is =
             ap₂ (λ (x : Span) (b : Bool). record { span = x; stops = b })
-            (span-like section starts (went.messages - from.passed) (went.time - from.time) many-cut lasts-cut)
-            (sym (any_first (reaches section) (onsets_after 0 all) cut-here.mark mark-met))
+            (span_like section starts (went.messages - from.passed) (went.time - from.time) many_cut lasts_cut)
+            (sym (any_first (reaches section) (onsets_after 0 all) cut_here.mark mark_met))
 
       -- none is
       module _ (long : to.time ≤ went.time) where
-        none-reached : any (reaches section) (onsets_after 0 all) ≡ false
+        none_reached : any (reaches section) (onsets_after 0 all) ≡ false
         unfolding between
-        none-reached =
+        none_reached =
             ap (λ (l : Items). any (reaches section) (onsets_after 0 l)) rest.1
-            ∙ unreached section (time_of all stop) bounded 0 (items_to stop all) rest.0 (omega (arith, cut-time start stop went walk, to-time))
+            ∙ unreached section (time_of all stop) bounded 0 (items_to stop all) rest.0 (omega (arith, cut_time start stop went walk, to_time))
 
-        many-whole : to.passed - from.passed ≡ length (messages_within section all)
+        many_whole : to.passed - from.passed ≡ length (messages_within section all)
         unfolding items_within
-        many-whole =
-            let whole = through_none (reaches section) (onsets_after 0 all) none-reached in
+        many_whole =
+            let whole = through_none (reaches section) (onsets_after 0 all) none_reached in
             let same = ap (λ (l : Onsets Event). length (messages_of is_message (keep (within section) l))) whole in
             omega (arith, unmarked, same)
 
-        lasts-whole : to.time - from.time ≡ lasts_in (onsets_after 0 all) section
+        lasts_whole : to.time - from.time ≡ lasts_in (onsets_after 0 all) section
         unfolding lasts_in lasts_to between
-        lasts-whole =
-            let time : to.time - from.time ≡ time_of all stop - time_of all start = omega (arith, to-time, from-time) in
-            time ∙ ap (lasts_to section) (sym (first_none (reaches section) (onsets_after 0 all) none-reached))
+        lasts_whole =
+            let time : to.time - from.time ≡ time_of all stop - time_of all start = omega (arith, to_time, from_time) in
+            time ∙ ap (lasts_to section) (sym (first_none (reaches section) (onsets_after 0 all) none_reached))
 
         between_is : record { span = span_to from to.passed to.time; stops = false } ≡ passage_of all (length s) section
         unfolding passage_of span_to stops_in
         between_is =
             ap₂ (λ (x : Span) (b : Bool). record { span = x; stops = b })
-            (span-like section starts (to.passed - from.passed) (to.time - from.time) many-whole lasts-whole) (sym none-reached)
+            (span_like section starts (to.passed - from.passed) (to.time - from.time) many_whole lasts_whole) (sym none_reached)
 
-      pub passage-is : (r : Passage) → r ≡ passage_to from went to → r ≡ passage_between (items_of voice s) (length s) from.at stop
+      pub passage_is : (r : Passage) → r ≡ passage_to from went to → r ≡ passage_between (items_of voice s) (length s) from.at stop
       unfolding passage_to if◌then◌else◌
-      passage-is r e =
+      passage_is r e =
           e ∙ by_test (went.time <? to.time)
-          (λ t. simp t (reaches-is (ltb-true went.time to.time t)))
+          (λ t. simp t (reaches_is (ltb-true went.time to.time t)))
           (λ t. simp t (between_is (ltb-false went.time to.time t)))
 
     -- TO THE BODY'S END, or through the first mark from there on
@@ -395,38 +395,38 @@ module _ (voice : Voice) (s : List ℕ) where
       whole : items_to (length s) all ≡ all
       whole = all_to 0 all (stand fine)
 
-      on-late : time_of all start ≤ lasting heard
-      on-late = cut-late start (length s) to walk after
+      on_late : time_of all start ≤ lasting heard
+      on_late = cut_late start (length s) to walk after
 
-      pub time-on : from.time ≤ to.time
-      time-on = omega (arith, from-time, cut-time start (length s) to walk, on-late)
+      pub time_on : from.time ≤ to.time
+      time_on = omega (arith, from_time, cut_time start (length s) to walk, on_late)
 
-      heard-onsets : through (reaches unstopped) (onsets_after 0 all) ≡ onsets_after 0 heard
+      heard_onsets : through (reaches unstopped) (onsets_after 0 all) ≡ onsets_after 0 heard
       unfolding stream_section
-      heard-onsets = open_through unstopped endless 0 all ∙ ap (λ (l : Items). onsets_after 0 (items_through start l)) (sym whole)
+      heard_onsets = open_through unstopped endless 0 all ∙ ap (λ (l : Items). onsets_after 0 (items_through start l)) (sym whole)
 
-      on-apart : to.messages ≡ from.passed + length (messages_within unstopped all)
+      on_apart : to.messages ≡ from.passed + length (messages_within unstopped all)
       unfolding items_within stream_section is_below
-      on-apart =
-          let apart = cut_apart start (length s) to walk fine unstopped on-late (λ onset h. refl) (all_kept (onsets_after 0 heard)) in
-          let same = ap (λ (l : Onsets Event). length (messages_of is_message (keep (within unstopped) l))) heard-onsets in
-          omega (arith, cut-messages start (length s) to walk, from-passed, apart, same)
+      on_apart =
+          let apart = cut_apart start (length s) to walk fine unstopped on_late (λ onset h. refl) (all_kept (onsets_after 0 heard)) in
+          let same = ap (λ (l : Onsets Event). length (messages_of is_message (keep (within unstopped) l))) heard_onsets in
+          omega (arith, cut_messages start (length s) to walk, from_passed, apart, same)
 
-      pub passed-falls-not-on : from.passed ≤ to.messages
-      passed-falls-not-on = omega (arith, on-apart)
+      pub passed_falls_not_on : from.passed ≤ to.messages
+      passed_falls_not_on = omega (arith, on_apart)
 
       lasts_on : to.time - from.time ≡ lasts_in (onsets_after 0 all) unstopped
       unfolding stream_section
       lasts_on =
-          let time : to.time - from.time ≡ lasting heard - time_of all start = omega (arith, cut-time start (length s) to walk, from-time) in
+          let time : to.time - from.time ≡ lasting heard - time_of all start = omega (arith, cut_time start (length s) to walk, from_time) in
           time ∙ ap (λ (l : Items). lasting (items_through start l) - time_of all start) whole ∙ sym (lasts_through unstopped endless all refl)
 
       pub stream_is : (r : Span) → r ≡ span_to from to.messages to.time → r ≡ span_from (items_of voice s) (length s) from.at
       unfolding span_to
       stream_is r e =
-          let many : to.messages - from.passed ≡ length (messages_within unstopped all) = omega (arith, on-apart) in
-          e ∙ span-like unstopped begins (to.messages - from.passed) (to.time - from.time) many lasts_on
+          let many : to.messages - from.passed ≡ length (messages_within unstopped all) = omega (arith, on_apart) in
+          e ∙ span_like unstopped begins (to.messages - from.passed) (to.time - from.time) many lasts_on
 
-pub ruleset reaching = (head-walked, head_first, size_is_address, arrived-walked, arrived-near, at-start, arrived-there, address-within, passage-from, span-from)
+pub ruleset reaching = (head_walked, head_first, size_is_address, arrived_walked, arrived_near, at_start, arrived_there, address_within, passage_from, span_from_lem)
 
-pub ruleset spanning = (went-later, stop-later, went-heard, stop-passed, passage-is, time-on, passed-falls-not-on, stream_is)
+pub ruleset spanning = (went_later, stop_later, went_heard, stop_passed, passage_is, time_on, passed_falls_not_on, stream_is)

@@ -24,22 +24,22 @@ rising_from low lower high (row ∷ rows) h rises = (omega arith, rises.1)
 
 module _ (before lasts : ℕ) (section : Section) where
   -- a message's step, by its onset
-  abbrev stepAt : ℕ → ℕ
-  stepAt onset = before + (onset - section.from)
+  abbrev step_at : ℕ → ℕ
+  step_at onset = before + (onset - section.from)
 
   abbrev end : ℕ
   end = before + lasts
 
-  with_rises : (low onset : ℕ) (what : Item Event) (l : List (At Event)) → low ≤ stepAt onset
-      → Rising (stepAt onset) end (map (counted before section.from) l)
+  with_rises : (low onset : ℕ) (what : Item Event) (l : List (At Event)) → low ≤ step_at onset
+      → Rising (step_at onset) end (map (counted before section.from) l)
       → Rising low end (map (counted before section.from) (with_message is_message onset what l))
   unfolding with_message if◌then◌else◌
   with_rises low onset (timed duration event) l h rises =
-      by_test (is_message event) (λ t. simp t (h, rises)) (λ t. simp t (rising_from (stepAt onset) low end (map (counted before section.from) l) h rises))
-  with_rises low onset end_mark l h rises = rising_from (stepAt onset) low end (map (counted before section.from) l) h rises
+      by_test (is_message event) (λ t. simp t (h, rises)) (λ t. simp t (rising_from (step_at onset) low end (map (counted before section.from) l) h rises))
+  with_rises low onset end_mark l h rises = rising_from (step_at onset) low end (map (counted before section.from) l) h rises
 
   -- what is within the section, up to where it is cut off, and not past its end
-  kept_rise : (cut : At (Placed (Item Event)) → Bool) (low past : ℕ) (items : Items) → low ≤ end → low ≤ stepAt past
+  kept_rise : (cut : At (Placed (Item Event)) → Bool) (low past : ℕ) (items : Items) → low ≤ end → low ≤ step_at past
       → Ended section lasts (through cut (onsets_after past items))
       → Rising low end (map (counted before section.from) (messages_of is_message (keep (within section) (through cut (onsets_after past items)))))
   unfolding keep through onsets_after messages_of if◌then◌else◌
@@ -57,7 +57,7 @@ module _ (before lasts : ℕ) (section : Section) where
       by_test (is_within section onset)
       (λ t.
       let high = all.0 t in
-      let rest = kept_rise cut (stepAt onset) onset items (omega arith) (omega arith) all.1 in
+      let rest = kept_rise cut (step_at onset) onset items (omega arith) (omega arith) all.1 in
       simp (c, t)
       (with_rises low onset item.what (messages_of is_message (keep (within section) (through cut (onsets_after onset items)))) (omega arith) rest))
       (λ t. simp (c, t) (kept_rise cut low onset items h (omega arith) all.1)))

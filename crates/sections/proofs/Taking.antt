@@ -24,7 +24,7 @@ use Rattle.model.proofs.Tests.{if_all}
 use Rattle.items.proofs.Passing.{sounds_here}
 use Rattle.sections.specs.Taking.{AllBytes, taken_as, taken_mark, EventAgrees, ItemAgrees}
 use Rattle.sections.specs.declared.Taken.{Taken}
-use Rattle.sections.proofs.InWords.{DurationShort, duration_short, gate_short, ItemInWord, item-in-word}
+use Rattle.sections.proofs.InWords.{DurationShort, duration_short, gate_short, ItemInWord, item_in_word}
 
 pub word_some : (event : Event) → (word_of event ≡ 0 → ⊥) → is_message event ≡ true
 unfolding is_message word_of
@@ -81,21 +81,21 @@ module _ (voice : Voice) (s : List ℕ) (at length : ℕ) (d : ReadDuration) (is
 
 module _ (voice : Voice) (s : List ℕ) (at : ℕ) (i : ReadItem) (is : i ≡ item_at voice s at) where
   pub read_in_word : (duration next : ℕ) (what : Event) → AllBytes s → length s ≤ 65536 → i ≡ Timed duration what next → InWord what
-  read_in_word duration next what bytes small e = (subst ItemInWord (sym is ∙ e) (item-in-word s bytes small voice at)).1
+  read_in_word duration next what bytes small e = (subst ItemInWord (sym is ∙ e) (item_in_word s bytes small voice at)).1
 
   module _ (r : Taken) where
-    pub read-timed : (duration next word : ℕ) (what : Event) → i ≡ Timed duration what next → word ≡ word_of what → r ≡ taken_as next duration word
+    pub read_timed : (duration next word : ℕ) (what : Event) → i ≡ Timed duration what next → word ≡ word_of what → r ≡ taken_as next duration word
         → ItemAgrees r (item_at voice s at)
     unfolding ItemAgrees
-    read-timed duration next word what e w h = subst (ItemAgrees r) (sym e ∙ is) (h ∙ ap (taken_as next duration) w)
+    read_timed duration next word what e w h = subst (ItemAgrees r) (sym e ∙ is) (h ∙ ap (taken_as next duration) w)
 
-    pub read-mark : (next : ℕ) → i ≡ EndMark next → r ≡ taken_mark next 0 → ItemAgrees r (item_at voice s at)
+    pub read_mark : (next : ℕ) → i ≡ EndMark next → r ≡ taken_mark next 0 → ItemAgrees r (item_at voice s at)
     unfolding ItemAgrees
-    read-mark next e h = subst (ItemAgrees r) (sym e ∙ is) h
+    read_mark next e h = subst (ItemAgrees r) (sym e ∙ is) h
 
-    pub read-refused : (number place : ℕ) → i ≡ Refused number place → ItemAgrees r (item_at voice s at)
+    pub read_refused : (number place : ℕ) → i ≡ Refused number place → ItemAgrees r (item_at voice s at)
     unfolding ItemAgrees
-    read-refused number place e = subst (ItemAgrees r) (sym e ∙ is) tt
+    read_refused number place e = subst (ItemAgrees r) (sym e ∙ is) tt
 
 -- AFTER A DURATION OF ONE BYTE
 
@@ -109,4 +109,4 @@ module _ (voice : Voice) (s : List ℕ) (at : ℕ) (there : at + 1 < length s) (
   pub item_sounds : (r : Taken) → EventAgrees (s ! at) r (sound_at voice s (at + 1)) → ItemAgrees r (item_at voice s at)
   item_sounds r h = subst (ItemAgrees r) (sym (sounds_here voice s at there one control system)) (with_agrees (s ! at) r (sound_at voice s (at + 1)) h)
 
-pub ruleset taking = (score_word, pcm_word, gate_fits, sound_taken, sound_refused, read_in_word, read-timed, read-mark, read-refused, item_sounds)
+pub ruleset taking = (score_word, pcm_word, gate_fits, sound_taken, sound_refused, read_in_word, read_timed, read_mark, read_refused, item_sounds)

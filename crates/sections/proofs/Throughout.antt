@@ -18,7 +18,7 @@ use Rattle.model.specs.declared.ReadItem.TheVariants.{Timed, EndMark, Refused}
 use Rattle.model.proofs.Tests.{by_test, if_all}
 use Rattle.items.proofs.Standing.{body_stands}
 use Rattle.sections.specs.Spans.{Items, messages_within, counted}
-use Rattle.sections.proofs.InWords.{ItemInWord, item-in-word}
+use Rattle.sections.proofs.InWords.{ItemInWord, item_in_word}
 use Rattle.sections.proofs.Places.{Standing}
 
 module _ (P : Event → Type 0) where
@@ -91,7 +91,7 @@ module _ (voice : Voice) (s : List ℕ) (bytes : (k : ℕ) → s ! k < 256) (sma
   unfolding item_step
   standing_in_word at [] st = tt
   standing_in_word at (item ∷ items) st =
-      (met_in_word at (item_at voice s at) item st.0 (item-in-word s bytes small voice at) st.1, standing_in_word st.0 items st.2)
+      (met_in_word at (item_at voice s at) item st.0 (item_in_word s bytes small voice at) st.1, standing_in_word st.0 items st.2)
 
   pub body_in_word : (items : Items) → body_of voice s ≡ fine items → OfItems InWord items
   body_in_word items e = standing_in_word 0 items (body_stands voice s items e)

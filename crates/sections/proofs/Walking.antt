@@ -125,19 +125,19 @@ module _ (voice : Voice) (s : List ℕ) where
     ahead : r.at < next
     ahead = (stands_ahead voice s r.at item next w.stands.1).0
 
-    theres-next : (address : ℕ) → next ≤ address → is_there rest (length s) address ≡ is_address all (length s) address
-    theres-next address h = sym (passed_by_lem item rest address (length s) (omega (arith, here, ahead))) ∙ w.theres address (omega (arith, ahead))
+    theres_next : (address : ℕ) → next ≤ address → is_there rest (length s) address ≡ is_address all (length s) address
+    theres_next address h = sym (passed_by_lem item rest address (length s) (omega (arith, here, ahead))) ∙ w.theres address (omega (arith, ahead))
 
-    times-next : (address : ℕ) → next ≤ address → r.time + duration + time_in rest address ≡ time_of all address
-    times-next address h =
+    times_next : (address : ℕ) → next ≤ address → r.time + duration + time_in rest address ≡ time_of all address
+    times_next address h =
         let t = timed_by item rest address (omega (arith, here, ahead)) in
         let u = w.times address (omega (arith, ahead)) in
         omega (arith, takes)
 
-    heards-next : (address : ℕ) → next ≤ address
+    heards_next : (address : ℕ) → next ≤ address
         → r.messages + heard + length (messages_after (r.time + duration) (items_to address rest)) ≡ length (messages_after 0 (items_to address all))
     unfolding keep onsets_after messages_of if◌then◌else◌
-    heards-next address h =
+    heards_next address h =
         let before : item.place < address = omega (arith, here, ahead) in
         let first : items_to address (item ∷ rest) ≡ item ∷ items_to address rest = simp lt-ltb in
         let u = w.heards address (omega (arith, ahead)) in
@@ -149,16 +149,16 @@ module _ (voice : Voice) (s : List ℕ) where
         ∙ ap (λ (l : Items). length (messages_after r.time l)) (sym first))
         ∙ u
 
-    sinces-next : (time : ℕ) → r.time + duration < time → since time 0 all ≡ since time (r.time + duration) rest
+    sinces_next : (time : ℕ) → r.time + duration < time → since time 0 all ≡ since time (r.time + duration) rest
     unfolding since if◌then◌else◌
-    sinces-next time h =
+    sinces_next time h =
         let early : r.time + duration_of item.what < time = omega (arith, takes) in
         let step : since time r.time (item ∷ rest) ≡ since time (r.time + duration_of item.what) rest = simp lt-ltb in
         w.sinces time (omega arith) ∙ step ∙ ap (λ (d : ℕ). since time (r.time + d) rest) takes
 
-    earlies-next : (time : ℕ) → r.time + duration < time → messages_to time 0 all ≡ r.messages + heard + messages_to time (r.time + duration) rest
+    earlies_next : (time : ℕ) → r.time + duration < time → messages_to time 0 all ≡ r.messages + heard + messages_to time (r.time + duration) rest
     unfolding keep onsets_after messages_of if◌then◌else◌
-    earlies-next time h =
+    earlies_next time h =
         let early : r.time + duration_of item.what < time = omega (arith, takes) in
         let l = messages_of is_message (keep (λ at. at.step <? time) (onsets_after (r.time + duration_of item.what) rest)) in
         let step : messages_to time r.time (item ∷ rest) ≡ length (with_message is_message (r.time + duration_of item.what) item.what l) = simp lt-ltb in
@@ -167,17 +167,17 @@ module _ (voice : Voice) (s : List ℕ) where
         ∙ sym (add_assoc r.messages heard _)
 
     -- the items before the next place are those before this one, and this
-    pub behind-next : items_to next all ≡ items_to r.at all ++ (item ∷ [])
+    pub behind_next : items_to next all ≡ items_to r.at all ++ (item ∷ [])
     unfolding keep if◌then◌else◌
-    behind-next =
+    behind_next =
         let before : item.place < next = omega (arith, here, ahead) in
         let one : items_to next (item ∷ rest) ≡ item ∷ [] =
         simp lt-ltb (ap (λ (l : Items). item ∷ l) (none_to voice s next next rest w.stands.2 (omega arith))) in
         split_later r.at next all (item ∷ rest) (omega (arith, ahead)) w.split ∙ ap (λ (l : Items). items_to r.at all ++ l) one
 
-    split-next : all ≡ items_to next all ++ rest
-    split-next =
-        w.split ∙ sym (append_assoc (items_to r.at all) (item ∷ []) rest) ∙ ap (λ (front : Items). front ++ rest) (sym behind-next)
+    split_next : all ≡ items_to next all ++ rest
+    split_next =
+        w.split ∙ sym (append_assoc (items_to r.at all) (item ∷ []) rest) ∙ ap (λ (front : Items). front ++ rest) (sym behind_next)
 
     moved : (time first past passed : ℕ) → r.time + duration ≡ time → first ≤ r.at
         → place_of (length s) (since time 0 all).items ≡ first → (since time 0 all).past ≡ past → messages_to time 0 all ≡ passed
@@ -186,28 +186,28 @@ module _ (voice : Voice) (s : List ℕ) where
         record {
           stands = w.stands.2;
           few = omega (arith, w.few, ahead);
-          theres = theres-next;
-          times = λ address h. rw e at (times-next address h);
-          heards = λ address h. rw e at (heards-next address h);
-          sinces = λ t h. rw e at (sinces-next t (omega arith));
-          earlies = λ t h. rw e at (earlies-next t (omega arith));
+          theres = theres_next;
+          times = λ address h. rw e at (times_next address h);
+          heards = λ address h. rw e at (heards_next address h);
+          sinces = λ t h. rw e at (sinces_next t (omega arith));
+          earlies = λ t h. rw e at (earlies_next t (omega arith));
           first = f;
           past = p;
           passed = m;
           begun = omega (arith, ahead);
-          split = split-next;
+          split = split_next;
         }
 
     -- an item that takes time begins what is not before its onset
-    since-here : (duration ≡ 0 → ⊥) → since (r.time + duration) 0 all ≡ record { past = r.time; items = item ∷ rest }
+    since_here : (duration ≡ 0 → ⊥) → since (r.time + duration) 0 all ≡ record { past = r.time; items = item ∷ rest }
     unfolding since if◌then◌else◌
-    since-here long =
+    since_here long =
         let late : r.time + duration ≤ r.time + duration_of item.what = omega (arith, takes) in
         w.sinces (r.time + duration) (omega arith) ∙ simp le-ltb
 
-    early-here : (duration ≡ 0 → ⊥) → messages_to (r.time + duration) 0 all ≡ r.messages
+    early_here : (duration ≡ 0 → ⊥) → messages_to (r.time + duration) 0 all ≡ r.messages
     unfolding keep onsets_after messages_of is_below if◌then◌else◌
-    early-here long =
+    early_here long =
         let late : r.time + duration ≤ r.time + duration_of item.what = omega (arith, takes) in
         let none = none_kept (r.time + duration) (r.time + duration_of item.what) rest late in
         let step : messages_to (r.time + duration) r.time (item ∷ rest) ≡ 0 = simp (le-ltb, none) in
@@ -220,7 +220,7 @@ module _ (voice : Voice) (s : List ℕ) where
         (λ t. let z = eqb-true duration 0 t in simp t (moved r.time r.first r.past r.passed (omega arith) w.begun w.first w.past w.passed))
         (λ t.
         let long = eqb-false duration 0 t in
-        let l = since-here long in
+        let l = since_here long in
         simp t
         (moved (r.time + duration) r.at r.time r.messages refl (omega arith)
-        (ap (λ (x : Rest). place_of (length s) x.items) l ∙ here) (ap (λ (x : Rest). x.past) l) (early-here long)))
+        (ap (λ (x : Rest). place_of (length s) x.items) l ∙ here) (ap (λ (x : Rest). x.past) l) (early_here long)))

@@ -8,73 +8,73 @@ use Rattle.model.specs.declared.Event.TheVariants.{Nop, Note, Wave, Control, Exc
 
 module _ (event : Event) where
   module _ (is : event ≡ Nop) where
-    pub nop-message : (r : Bool) → r ≡ false → r ≡ is_message event
+    pub nop_message : (r : Bool) → r ≡ false → r ≡ is_message event
     unfolding is_message
-    nop-message r h = h ∙ sym (ap is_message is)
+    nop_message r h = h ∙ sym (ap is_message is)
 
-    pub nop-word : (r : ℕ) → r ≡ 0 → r ≡ word_of event
+    pub nop_word : (r : ℕ) → r ≡ 0 → r ≡ word_of event
     unfolding word_of
-    nop-word r h = h ∙ sym (ap word_of is)
+    nop_word r h = h ∙ sym (ap word_of is)
 
   module _ (channel value gate : ℕ) (is : event ≡ Note channel value gate) where
-    pub note-message : (r : Bool) → r ≡ true → r ≡ is_message event
+    pub note_message : (r : Bool) → r ≡ true → r ≡ is_message event
     unfolding is_message
-    note-message r h = h ∙ sym (ap is_message is)
+    note_message r h = h ∙ sym (ap is_message is)
 
-    pub note-word : (r : ℕ) → r ≡ packed 1 channel value gate → r ≡ word_of event
+    pub note_word : (r : ℕ) → r ≡ packed 1 channel value gate → r ≡ word_of event
     unfolding word_of
-    note-word r h = h ∙ sym (ap word_of is)
+    note_word r h = h ∙ sym (ap word_of is)
 
-    pub note-channel : InWord event → channel < 4
-    note-channel h = (subst InWord is h).0
+    pub note_channel : InWord event → channel < 4
+    note_channel h = (subst InWord is h).0
 
-    pub note-gate : InWord event → gate < 32768
-    note-gate h = (subst InWord is h).2
+    pub note_gate : InWord event → gate < 32768
+    note_gate h = (subst InWord is h).2
 
   module _ (channel value gate : ℕ) (is : event ≡ Wave channel value gate) where
-    pub wave-message : (r : Bool) → r ≡ true → r ≡ is_message event
+    pub wave_message : (r : Bool) → r ≡ true → r ≡ is_message event
     unfolding is_message
-    wave-message r h = h ∙ sym (ap is_message is)
+    wave_message r h = h ∙ sym (ap is_message is)
 
-    pub wave-word : (r : ℕ) → r ≡ packed 2 channel value gate → r ≡ word_of event
+    pub wave_word : (r : ℕ) → r ≡ packed 2 channel value gate → r ≡ word_of event
     unfolding word_of
-    wave-word r h = h ∙ sym (ap word_of is)
+    wave_word r h = h ∙ sym (ap word_of is)
 
-    pub wave-channel : InWord event → channel < 4
-    wave-channel h = (subst InWord is h).0
+    pub wave_channel : InWord event → channel < 4
+    wave_channel h = (subst InWord is h).0
 
-    pub wave-gate : InWord event → gate < 32768
-    wave-gate h = (subst InWord is h).2
+    pub wave_gate : InWord event → gate < 32768
+    wave_gate h = (subst InWord is h).2
 
   module _ (kind channel value : ℕ) (is : event ≡ Control kind channel value) where
-    pub control-message : (r : Bool) → r ≡ true → r ≡ is_message event
+    pub control_message : (r : Bool) → r ≡ true → r ≡ is_message event
     unfolding is_message
-    control-message r h = h ∙ sym (ap is_message is)
+    control_message r h = h ∙ sym (ap is_message is)
 
-    pub control-word : (r : ℕ) → r ≡ packed kind channel value 0 → r ≡ word_of event
+    pub control_word : (r : ℕ) → r ≡ packed kind channel value 0 → r ≡ word_of event
     unfolding word_of
-    control-word r h = h ∙ sym (ap word_of is)
+    control_word r h = h ∙ sym (ap word_of is)
 
-    pub control-kind : InWord event → kind < 14
-    control-kind h = (subst InWord is h).1
+    pub control_kind : InWord event → kind < 14
+    control_kind h = (subst InWord is h).1
 
-    pub control-channel : InWord event → channel < 4
-    control-channel h = (subst InWord is h).2
+    pub control_channel : InWord event → channel < 4
+    control_channel h = (subst InWord is h).2
 
   module _ (place size : ℕ) (is : event ≡ Exclusive place size) where
-    pub exclusive-message : (r : Bool) → r ≡ true → r ≡ is_message event
+    pub exclusive_message : (r : Bool) → r ≡ true → r ≡ is_message event
     unfolding is_message
-    exclusive-message r h = h ∙ sym (ap is_message is)
+    exclusive_message r h = h ∙ sym (ap is_message is)
 
-    pub exclusive-word : (r : ℕ) → r ≡ packed_exclusive place size → r ≡ word_of event
+    pub exclusive_word : (r : ℕ) → r ≡ packed_exclusive place size → r ≡ word_of event
     unfolding word_of
-    exclusive-word r h = h ∙ sym (ap word_of is)
+    exclusive_word r h = h ∙ sym (ap word_of is)
 
-    pub exclusive-place : InWord event → place < 65536
-    exclusive-place h = (subst InWord is h).0
+    pub exclusive_place : InWord event → place < 65536
+    exclusive_place h = (subst InWord is h).0
 
-pub ruleset messages = (nop-message, note-message, wave-message, control-message, exclusive-message)
+pub ruleset messages = (nop_message, note_message, wave_message, control_message, exclusive_message)
 
-pub ruleset words = (nop-word, note-word, wave-word, control-word, exclusive-word)
+pub ruleset words = (nop_word, note_word, wave_word, control_word, exclusive_word)
 
-pub ruleset bounds = (note-channel, note-gate, wave-channel, wave-gate, control-kind, control-channel, exclusive-place)
+pub ruleset bounds = (note_channel, note_gate, wave_channel, wave_gate, control_kind, control_channel, exclusive_place)

@@ -22,7 +22,7 @@ use Rattle.model.proofs.Tests.{by_test, if_true, if_false, and_on, first_false, 
 use Rattle.seek.specs.Next.{end_of, next_at}
 use Rattle.seek.specs.Rules.{is_point, entry_holds, entries_hold}
 use Rattle.seek.proofs.Ahead.{entry_of, placed}
-use Rattle.seek.proofs.Standing.{Entries, all_entries, Walking, walk_starts, walk_ends, walk_meets, walk_known, walk-nears, walk-turns}
+use Rattle.seek.proofs.Standing.{Entries, all_entries, Walking, walk_starts, walk_ends, walk_meets, walk_known, walk_nears, walk_turns}
 
 abbrev Items : Type 0
 Items = List (Placed (Item Event))
@@ -116,9 +116,9 @@ module _ (phrases : Bool) (items : Items) (size : ℕ) (s : List ℕ) where
   holding_starts h = walk_starts _ phrases s h refl
 
   module _ (at : ℕ) (w : Holding phrases items size s at) where
-    pub holding-ends : length s ≤ at → check.Passed ≡ check_answer (entries_hold phrases items size (all_entries phrases s))
+    pub holding_ends : length s ≤ at → check.Passed ≡ check_answer (entries_hold phrases items size (all_entries phrases s))
     unfolding all_pass check_answer
-    holding-ends past = walk_ends _ phrases s at w past
+    holding_ends past = walk_ends _ phrases s at w past
 
     module _ (points : Points) (entry : ReadEntry) (said : points ≡ points_said (all_entries phrases s)) (here : at < length s) (is : entry ≡ next_at (point_width phrases) s at) where
       judged : (t : Bool) → tested phrases items size points entry ≡ t → kept phrases items size (all_entries phrases s) (entry_of s at entry) ≡ t
@@ -128,20 +128,20 @@ module _ (phrases : Bool) (items : Items) (size : ℕ) (s : List ℕ) where
           ∙ ap₂ (λ (n k : ℕ). entry_holds (is_address items size) (is_point phrases items size n) k entry) (sym (ap (λ (p : Points). p.letters) said)) (sym (ap (λ (p : Points). p.start) said))
           ∙ h
 
-      pub holding-refuses : tested phrases items size points entry ≡ false
+      pub holding_refuses : tested phrases items size points entry ≡ false
           → check.Refused 13 at ≡ check_answer (entries_hold phrases items size (all_entries phrases s))
       unfolding check_answer
-      holding-refuses h =
+      holding_refuses h =
           walk_meets _ phrases s at w entry here is
           (λ rest m same. ap check_answer (sym (all_refuse (rule phrases items size (all_entries phrases s)) (placed s at entry) rest 13 at (if_false _ _ _ (judged false h)))) ∙ same)
 
-      pub holding-turns : (next : ℕ) → next ≡ end_of entry → tested phrases items size points entry ≡ true
+      pub holding_turns : (next : ℕ) → next ≡ end_of entry → tested phrases items size points entry ≡ true
           → Holding phrases items size s next
-      holding-turns next ends h =
-          walk-turns _ phrases s at w entry here is next ends _
+      holding_turns next ends h =
+          walk_turns _ phrases s at w entry here is next ends _
           (λ rest m same. ap check_answer (sym (all_go_on (rule phrases items size (all_entries phrases s)) (placed s at entry) rest (if_true _ _ _ (judged true h)))) ∙ same)
 
-pub ruleset holding = (holding_starts, holding-ends, holding-refuses, holding-turns, walk_known, walk-nears, flag_on, flag_off)
+pub ruleset holding = (holding_starts, holding_ends, holding_refuses, holding_turns, walk_known, walk_nears, flag_on, flag_off)
 
 -- BOTH RULES, one after the other
 
@@ -165,16 +165,16 @@ module _ (phrases : Bool) (items : Items) (size : ℕ) (entries : Entries) where
   with_phrases p = rw p refl
 
   module _ (a : Check) (is : a ≡ check_answer (entries_hold phrases items size entries)) where
-    pub rules-stream : phrases ≡ false → a ≡ check.Passed → check.Passed ≡ check_answer (points_of phrases items size entries)
-    rules-stream p e = sym e ∙ is ∙ ap check_answer (in_stream p)
+    pub rules_stream : phrases ≡ false → a ≡ check.Passed → check.Passed ≡ check_answer (points_of phrases items size entries)
+    rules_stream p e = sym e ∙ is ∙ ap check_answer (in_stream p)
 
-    pub rules-letters : (z : Check) → phrases ≡ true → a ≡ check.Passed → z ≡ check_answer (order_holds entries) → z ≡ check_answer (points_of phrases items size entries)
-    rules-letters z p e h = h ∙ sym (passes_on (entries_hold phrases items size entries) (order_holds entries) (sym is ∙ e)) ∙ ap check_answer (with_phrases p)
+    pub rules_letters : (z : Check) → phrases ≡ true → a ≡ check.Passed → z ≡ check_answer (order_holds entries) → z ≡ check_answer (points_of phrases items size entries)
+    rules_letters z p e h = h ∙ sym (passes_on (entries_hold phrases items size entries) (order_holds entries) (sym is ∙ e)) ∙ ap check_answer (with_phrases p)
 
-    pub rules-refuse : (number place : ℕ) → a ≡ check.Refused number place → check.Refused number place ≡ check_answer (points_of phrases items size entries)
-    rules-refuse number place e =
+    pub rules_refuse : (number place : ℕ) → a ≡ check.Refused number place → check.Refused number place ≡ check_answer (points_of phrases items size entries)
+    rules_refuse number place e =
         by_test phrases
         (λ p. sym (refuses_all (entries_hold phrases items size entries) (order_holds entries) number place (sym is ∙ e)) ∙ ap check_answer (with_phrases p))
         (λ p. sym e ∙ is ∙ ap check_answer (in_stream p))
 
-pub ruleset rules = (rules-stream, rules-letters, rules-refuse)
+pub ruleset rules = (rules_stream, rules_letters, rules_refuse)

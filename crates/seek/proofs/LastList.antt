@@ -50,8 +50,8 @@ module _ (width : ℕ) (s : List ℕ) (at : ℕ) (known : is_known (length s) (n
 
   module _ (tagged : (number 2 s at ≡? 0x534C) ≡ true) where
     -- a phrase has another tag
-    list-no-phrase : ((s ! at ≡? 0x50) and is_letter (s ! (at + 1))) ≡ false
-    list-no-phrase =
+    list_no_phrase : ((s ! at ≡? 0x50) and is_letter (s ! (at + 1))) ≡ false
+    list_no_phrase =
         by_test ((s ! at ≡? 0x50) and is_letter (s ! (at + 1)))
         (λ h.
         let first = ap (λ (n : ℕ). s ! n) (add-zero at) ∙ eqb-true (s ! at) 0x50 (and_left _ _ h) in
@@ -65,7 +65,7 @@ module _ (width : ℕ) (s : List ℕ) (at : ℕ) (known : is_known (length s) (n
         let tag = eqb-true (number 2 s at) 0x534C tagged in
         if_false _ _ _ (le-ltb (length s) (at + 3) known_room)
         ∙ if_false _ _ _ (not_off _ (eq-eqb (s ! (at + 2)) 0x3A known_colon))
-        ∙ if_false _ _ _ list-no-phrase
+        ∙ if_false _ _ _ list_no_phrase
         ∙ if_false _ _ _ (ne_eqb (number 2 s at) 0x7374 (λ e. omega arith))
         ∙ if_false _ _ _ (ne_eqb (number 2 s at) 0x7370 (λ e. omega arith))
         ∙ if_true _ _ _ tagged
@@ -90,8 +90,8 @@ module _ (width : ℕ) (s : List ℕ) (at : ℕ) (known : is_known (length s) (n
         (λ g. absurd (false≢true (sym (ap (is_known (length s)) (is ∙ if_false _ _ _ h ∙ if_false _ _ _ g)) ∙ known))))
 
     -- where it ends with the body, the body's last byte is its colon or a letter
-    list-no-comma : at + 3 + letters ≡ length s → s ! (length s - 1) ≡ 0x2C → ⊥
-    list-no-comma all comma =
+    list_no_comma : at + 3 + letters ≡ length s → s ! (length s - 1) ≡ 0x2C → ⊥
+    list_no_comma all comma =
         elim (dec_lt 0 letters) [
           | yes some ↦
               let there : at + 3 + (letters - 1) ≡ length s - 1 = omega arith in
@@ -104,17 +104,17 @@ module _ (width : ℕ) (s : List ℕ) (at : ℕ) (known : is_known (length s) (n
               omega (arith, same, known_colon)
         ]
 
-    pub list-before-comma : s ! (length s - 1) ≡ 0x2C → at + 3 ≤ length s - 1
-    list-before-comma comma = list_ends (λ all is. absurd (list-no-comma all comma)) (λ all g is. omega arith)
+    pub list_before_comma : s ! (length s - 1) ≡ 0x2C → at + 3 ≤ length s - 1
+    list_before_comma comma = list_ends (λ all is. absurd (list_no_comma all comma)) (λ all g is. omega arith)
 
-    pub list-to-comma : s ! (length s - 1) ≡ 0x2C → Order (length s - 1 - (at + 3)) (length s) ≡ next_at width s at
-    list-to-comma comma =
-        list_ends (λ all is. absurd (list-no-comma all comma))
+    pub list_to_comma : s ! (length s - 1) ≡ 0x2C → Order (length s - 1 - (at + 3)) (length s) ≡ next_at width s at
+    list_to_comma comma =
+        list_ends (λ all is. absurd (list_no_comma all comma))
         (λ all g is. let many : length s - 1 - (at + 3) ≡ letters = omega arith in ap (λ (n : ℕ). Order n (length s)) many ∙ sym is)
 
-    pub list-to-end : (s ! (length s - 1) ≡ 0x2C → ⊥) → Order (length s - (at + 3)) (length s) ≡ next_at width s at
-    list-to-end other =
+    pub list_to_end : (s ! (length s - 1) ≡ 0x2C → ⊥) → Order (length s - (at + 3)) (length s) ≡ next_at width s at
+    list_to_end other =
         list_ends (λ all is. let many : length s - (at + 3) ≡ letters = omega arith in ap (λ (n : ℕ). Order n (length s)) many ∙ sym is)
         (λ all g is. let there : at + 3 + letters ≡ length s - 1 = omega arith in absurd (other (ap (λ (n : ℕ). s ! n) (sym there) ∙ g)))
 
-pub ruleset lists = (list-before-comma, list-to-comma, list-to-end, flag_on)
+pub ruleset lists = (list_before_comma, list_to_comma, list_to_end, flag_on)

@@ -97,24 +97,24 @@ module _ (s : List ℕ) (at count : ℕ) (r : Counting s at count) where
       sym (add-zero count) ∙ ap (λ (n : ℕ). count + n) (sym none) ∙ r.same
 
   module _ (here : count < length s - at) where
-    inFront : letters_in_front (drop (at + count) s) ≡ (if is_letter (get_or s (at + count) 0) then suc (letters_in_front (drop (suc (at + count)) s)) else 0)
+    in_front : letters_in_front (drop (at + count) s) ≡ (if is_letter (get_or s (at + count) 0) then suc (letters_in_front (drop (suc (at + count)) s)) else 0)
     unfolding letters_in_front
-    inFront = let there : at + count < length s = omega arith in rw (drop-cons s (at + count) 0)
+    in_front = let there : at + count < length s = omega arith in rw (drop-cons s (at + count) 0)
 
-    pub letters-stop : is_letter (get_or s (at + count) 0) ≡ false → count ≡ letters_in_front (drop at s)
-    letters-stop other =
-        sym (add-zero count) ∙ ap (λ (n : ℕ). count + n) (sym (inFront ∙ if_false _ _ _ other)) ∙ r.same
+    pub letters_stop : is_letter (get_or s (at + count) 0) ≡ false → count ≡ letters_in_front (drop at s)
+    letters_stop other =
+        sym (add-zero count) ∙ ap (λ (n : ℕ). count + n) (sym (in_front ∙ if_false _ _ _ other)) ∙ r.same
 
-    pub letters-more : is_letter (get_or s (at + count) 0) ≡ true → Counting s at (count + 1)
-    letters-more one =
+    pub letters_more : is_letter (get_or s (at + count) 0) ≡ true → Counting s at (count + 1)
+    letters_more one =
         let on : at + (count + 1) ≡ suc (at + count) = omega arith in
-        let e = inFront ∙ if_true _ _ _ one in
+        let e = in_front ∙ if_true _ _ _ one in
         record {
           within = omega arith;
           same = rw on (omega (arith, e, r.same));
         }
 
-pub ruleset counting = (letters_start, letters_end, letters-stop, letters-more, flag_on, flag_off)
+pub ruleset counting = (letters_start, letters_end, letters_stop, letters_more, flag_on, flag_off)
 
 -- the last of a chain of tests
 pub or_none : (a z : Bool) → z ≡ a → z ≡ (a or false)

@@ -29,7 +29,7 @@ use Rattle.seek.specs.Rules.{marked, Named}
 use Rattle.seek.proofs.Ahead.{entry_of, placed}
 use Rattle.seek.proofs.Letters.{or_none}
 use Rattle.seek.proofs.Ordering.{none_flagged}
-use Rattle.seek.proofs.Standing.{Entries, all_entries, Without, Met, Walking, walk_starts, walk_ends, walk_known, walk-nears, walk-turns, walk_all, later}
+use Rattle.seek.proofs.Standing.{Entries, all_entries, Without, Met, Walking, walk_starts, walk_ends, walk_known, walk_nears, walk_turns, walk_all, later}
 use Rattle.seek.proofs.Holding.{all_go_on}
 
 -- FLAGS
@@ -94,14 +94,14 @@ module _ (phrases : Bool) (s : List ℕ) (flags : List Bool) (at : ℕ) (w : Mar
   pub marking_turns : (entry : ReadEntry) (next : ℕ) (more : List Bool) → at < length s → entry ≡ next_at (point_width phrases) s at → next ≡ end_of entry
       → more ≡ marked flags entry → Marking phrases s more next
   marking_turns entry next more here is ends e =
-      walk-turns _ phrases s at w entry here is next ends _
+      walk_turns _ phrases s at w entry here is next ends _
       (λ rest m f. subst (λ (l : List Bool). Flagging phrases s l rest) (sym e)
       (record {
         long = marked_long flags entry ∙ f.long;
         same = λ letter k. sym (named_turns s at flags letter entry rest (omega (arith, f.long))) ∙ f.same letter k;
       }))
 
-pub ruleset marking = (marking_starts, marking_ends, marking_turns, walk_known, walk-nears)
+pub ruleset marking = (marking_starts, marking_ends, marking_turns, walk_known, walk_nears)
 
 -- THE ORDER LIST: there is one at most, so that its letters are all that the rule is about
 
@@ -209,15 +209,15 @@ module _ (phrases : Bool) (s : List ℕ) (end at : ℕ) (r : Lettering phrases s
     unfolding letters_named
     splits = ap (λ (l : List ℕ). check_answer (letters_named (all_entries phrases s) at l)) (sym first) ∙ r.same
 
-    pub lettering-misses : get_or flags (s ! at) false ≡ false → check.Refused 14 at ≡ check_answer (order_holds (all_entries phrases s))
+    pub lettering_misses : get_or flags (s ! at) false ≡ false → check.Refused 14 at ≡ check_answer (order_holds (all_entries phrases s))
     unfolding check_answer
-    lettering-misses h = ap check_answer (sym (if_false _ _ _ (sym (n.flagged (s ! at) small) ∙ h))) ∙ splits
+    lettering_misses h = ap check_answer (sym (if_false _ _ _ (sym (n.flagged (s ! at) small) ∙ h))) ∙ splits
 
-    pub lettering-turns : get_or flags (s ! at) false ≡ true → Lettering phrases s end (at + 1)
-    lettering-turns h =
+    pub lettering_turns : get_or flags (s ! at) false ≡ true → Lettering phrases s end (at + 1)
+    lettering_turns h =
         record {
           within = r.within;
           same = ap check_answer (sym (if_true _ _ _ (sym (n.flagged (s ! at) small) ∙ h))) ∙ splits;
         }
 
-pub ruleset lettering = (order_fits, lettering_starts, lettering_ends, lettering-misses, lettering-turns, flag_on, flag_off)
+pub ruleset lettering = (order_fits, lettering_starts, lettering_ends, lettering_misses, lettering_turns, flag_on, flag_off)

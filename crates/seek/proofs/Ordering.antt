@@ -17,7 +17,7 @@ use Rattle.model.specs.declared.ReadEntry.TheVariants.{Start, Stop, Phrase, Orde
 use Rattle.model.specs.declared.Check.{Check}
 use Rattle.model.specs.declared.Check.TheVariants as check
 use Rattle.model.proofs.Tests.{by_test, if_true, if_false, is_on, is_off}
-use Rattle.model.proofs.Walks.{GoesOn, Left, left_starts, left-ends, left-stuck, left-refused, left-next}
+use Rattle.model.proofs.Walks.{GoesOn, Left, left_starts, left_ends, left_stuck, left_refused, left_next}
 use Rattle.model.proofs.Answers.{answer_first}
 use Rattle.seek.specs.Next.{is_refused, end_of, next_at, rank_of, slot_of}
 use Rattle.seek.proofs.Letters.{letter_least, letter_most}
@@ -182,7 +182,7 @@ form_starts phrases s h =
 module _ (phrases : Bool) (s : List ℕ) (seen : List Bool) (highest at : ℕ) (r : Forming phrases s seen highest at) where
   pub form_ends : length s ≤ at → check.Passed ≡ check_answer (seek_of (point_width phrases) s)
   unfolding check_answer
-  form_ends h = ap check_answer (sym (left-ends _ _ _ _ at r.before r.left r.walk h)) ∙ r.same
+  form_ends h = ap check_answer (sym (left_ends _ _ _ _ at r.before r.left r.walk h)) ∙ r.same
 
   module _ (entry : ReadEntry) (here : at < length s) (is : entry ≡ next_at (point_width phrases) s at) where
     steps : entry_step (point_width phrases) s at ≡ step_of s at entry
@@ -191,10 +191,10 @@ module _ (phrases : Bool) (s : List ℕ) (seen : List Bool) (highest at : ℕ) (
     ahead : EntryAhead at (length s) entry
     ahead = subst (EntryAhead at (length s)) (sym is) (next_ahead (point_width phrases) s at)
 
-    pub form-broken : (z : Check) → is_refused entry ≡ true → z ≡ check.Refused 12 at → z ≡ check_answer (seek_of (point_width phrases) s)
+    pub form_broken : (z : Check) → is_refused entry ≡ true → z ≡ check.Refused 12 at → z ≡ check_answer (seek_of (point_width phrases) s)
     unfolding step_of check_answer
-    form-broken z h e =
-        e ∙ ap check_answer (sym (left-stuck _ _ _ _ at r.before r.left r.walk 12 at here (steps ∙ if_true _ _ _ h))) ∙ r.same
+    form_broken z h e =
+        e ∙ ap check_answer (sym (left_stuck _ _ _ _ at r.before r.left r.walk 12 at here (steps ∙ if_true _ _ _ h))) ∙ r.same
 
     module _ (whole : is_refused entry ≡ false) where
       meets : entry_step (point_width phrases) s at ≡ met (placed s at entry) (end_of entry)
@@ -207,7 +207,7 @@ module _ (phrases : Bool) (s : List ℕ) (seen : List Bool) (highest at : ℕ) (
       out_of_order : (z : Check) → in_order r.before (placed s at entry) ≡ refused 12 at → z ≡ check.Refused 12 at → z ≡ check_answer (seek_of (point_width phrases) s)
       unfolding check_answer
       out_of_order z h e =
-          e ∙ ap check_answer (sym (left-refused _ _ _ _ at r.before r.left r.walk (placed s at entry) (end_of entry) 12 at here meets h)) ∙ r.same
+          e ∙ ap check_answer (sym (left_refused _ _ _ _ at r.before r.left r.walk (placed s at entry) (end_of entry) 12 at here meets h)) ∙ r.same
 
       module _ (slotted : ℕ) (in-slot : slotted ≡ slot_of entry) where
         flag : tagged r.before (entry_of s at entry) ≡ get_or seen slotted false
@@ -215,25 +215,25 @@ module _ (phrases : Bool) (s : List ℕ) (seen : List Bool) (highest at : ℕ) (
             r.remembered.tags (entry_of s at entry) (known_read s at entry ahead)
             ∙ ap (λ (n : ℕ). get_or seen n false) (slot_read s at entry whole ∙ sym in-slot)
 
-        pub form-twice : (z : Check) → get_or seen slotted false ≡ true → z ≡ check.Refused 12 at → z ≡ check_answer (seek_of (point_width phrases) s)
-        form-twice z h e = out_of_order z (in_order_twice r.before (placed s at entry) (flag ∙ h)) e
+        pub form_twice : (z : Check) → get_or seen slotted false ≡ true → z ≡ check.Refused 12 at → z ≡ check_answer (seek_of (point_width phrases) s)
+        form_twice z h e = out_of_order z (in_order_twice r.before (placed s at entry) (flag ∙ h)) e
 
         module _ (ranks : ℕ) (of-rank : ranks ≡ rank_of entry) where
           above : ranked r.before (rank (entry_of s at entry)) ≡ (ranks <? highest)
           above = r.remembered.ranks _ ∙ ap (λ (n : ℕ). n <? highest) (rank_read s at entry whole ∙ sym of-rank)
 
-          pub form-late : (z : Check) → ranks < highest → z ≡ check.Refused 12 at → z ≡ check_answer (seek_of (point_width phrases) s)
-          form-late z h e = out_of_order z (in_order_late r.before (placed s at entry) (above ∙ lt-ltb ranks highest h)) e
+          pub form_late : (z : Check) → ranks < highest → z ≡ check.Refused 12 at → z ≡ check_answer (seek_of (point_width phrases) s)
+          form_late z h e = out_of_order z (in_order_late r.before (placed s at entry) (above ∙ lt-ltb ranks highest h)) e
 
-          pub form-nears : (next : ℕ) → next ≡ end_of entry → length s - next < length s - at
-          form-nears next e = omega (arith, goes)
+          pub form_nears : (next : ℕ) → next ≡ end_of entry → length s - next < length s - at
+          form_nears next e = omega (arith, goes)
 
-          pub form-goes-on : (next : ℕ) → slotted < 256 → get_or seen slotted false ≡ false → highest ≤ ranks → next ≡ end_of entry
+          pub form_goes_on : (next : ℕ) → slotted < 256 → get_or seen slotted false ≡ false → highest ≤ ranks → next ≡ end_of entry
               → Forming phrases s (set seen slotted true) ranks next
-          form-goes-on next small first up e =
+          form_goes_on next small first up e =
               let p : slot (entry_of s at entry) ≡ slotted = slot_read s at entry whole ∙ sym in-slot in
               let q : rank (entry_of s at entry) ≡ ranks = rank_read s at entry whole ∙ sym of-rank in
-              let n = left-next _ _ _ _ at r.before r.left r.walk (placed s at entry) (end_of entry) here meets goes
+              let n = left_next _ _ _ _ at r.before r.left r.walk (placed s at entry) (end_of entry) here meets goes
               (in_order_passes r.before (placed s at entry) (flag ∙ first) (above ∙ le-ltb ranks highest up)) in
               record {
                 before = placed s at entry ∷ r.before;
@@ -247,4 +247,4 @@ module _ (phrases : Bool) (s : List ℕ) (seen : List Bool) (highest at : ℕ) (
                 same = sym (answer_first (placed s at entry) n.0) ∙ ap check_answer (sym n.2) ∙ r.same;
               }
 
-pub ruleset forming = (form_empty, form_starts, form_ends, form-broken, form-twice, form-late, form-nears, form-goes-on, is_on, is_off)
+pub ruleset forming = (form_empty, form_starts, form_ends, form_broken, form_twice, form_late, form_nears, form_goes_on, is_on, is_off)

@@ -21,7 +21,7 @@ use Rattle.model.proofs.Tests.{by_test}
 use Rattle.seek.specs.Next.{is_refused, end_of, next_at}
 use Rattle.seek.specs.Said.{nothing, noted, phrase_named}
 use Rattle.seek.proofs.Ahead.{entry_of, placed}
-use Rattle.seek.proofs.Standing.{Entries, all_entries, Without, silent, Walking, walk_starts, Met, walk_ends, walk_meets, walk_known, walk-nears, walk-turns}
+use Rattle.seek.proofs.Standing.{Entries, all_entries, Without, silent, Walking, walk_starts, Met, walk_ends, walk_meets, walk_known, walk_nears, walk_turns}
 
 -- WHO SAYS WHAT
 
@@ -136,10 +136,10 @@ module _ (phrases : Bool) (s : List ℕ) (points : Points) (at : ℕ) (w : Point
   pub points_turn : (entry : ReadEntry) (next : ℕ) (more : Points) → at < length s → entry ≡ next_at (point_width phrases) s at → next ≡ end_of entry
       → more ≡ noted points at entry → Pointing phrases s more next
   points_turn entry next more here is ends e =
-      walk-turns _ phrases s at w entry here is next ends _
+      walk_turns _ phrases s at w entry here is next ends _
       (λ rest m same. ap (λ (p : Points). said_over p rest) e ∙ sym (said_turns s at points entry rest m) ∙ same)
 
-pub ruleset pointing = (points_start, points_end, points_turn, walk_known, walk-nears)
+pub ruleset pointing = (points_start, points_end, points_turn, walk_known, walk_nears)
 
 -- A LETTER'S PHRASE
 
@@ -179,13 +179,13 @@ module _ (phrases : Bool) (s : List ℕ) (letter at : ℕ) (w : Searching phrase
     says : (told : FoundPhrase) → said ≡ told → found_phrase (phrase_in letter (entry_of s at entry)) ≡ told
     says told e = sym (phrase_read letter s at entry) ∙ sym answers ∙ e
 
-    pub search-finds : (from to : ℕ) → said ≡ Between from to → Between from to ≡ found_phrase (phrase_of letter (all_entries phrases s))
+    pub search_finds : (from to : ℕ) → said ≡ Between from to → Between from to ≡ found_phrase (phrase_of letter (all_entries phrases s))
     unfolding phrase_of first_said
-    search-finds from to e = walk_meets _ phrases s at w entry here is (λ rest m same. sym (first_names _ (phrase_of letter rest) from to (says _ e)) ∙ same)
+    search_finds from to e = walk_meets _ phrases s at w entry here is (λ rest m same. sym (first_names _ (phrase_of letter rest) from to (says _ e)) ∙ same)
 
-    pub search-turns : (next : ℕ) → next ≡ end_of entry → said ≡ Nowhere → Searching phrases s letter next
+    pub search_turns : (next : ℕ) → next ≡ end_of entry → said ≡ Nowhere → Searching phrases s letter next
     unfolding phrase_of first_said
-    search-turns next ends e =
-        walk-turns _ phrases s at w entry here is next ends _ (λ rest m same. sym (first_silent _ (phrase_of letter rest) (says _ e)) ∙ same)
+    search_turns next ends e =
+        walk_turns _ phrases s at w entry here is next ends _ (λ rest m same. sym (first_silent _ (phrase_of letter rest) (says _ e)) ∙ same)
 
-pub ruleset searching = (search_starts, search_ends, search-finds, search-turns, walk_known, walk-nears)
+pub ruleset searching = (search_starts, search_ends, search_finds, search_turns, walk_known, walk_nears)

@@ -192,11 +192,11 @@ module _ (P : Entries → Type 0) (phrases : Bool) (s : List ℕ) (at : ℕ) (w 
     walk_meets f = f turn.more meets (subst P turn.splits w.holds)
 
     module _ (next : ℕ) (ends : next ≡ end_of entry) where
-      pub walk-nears : length s - next < length s - at
-      walk-nears = omega (arith, turn.nears)
+      pub walk_nears : length s - next < length s - at
+      walk_nears = omega (arith, turn.nears)
 
-      pub walk-turns : (Q : Entries → Type 0) → ((more : Entries) → Met s at entry more → P (placed s at entry ∷ more) → Q more) → Walking Q phrases s next
-      walk-turns Q f =
+      pub walk_turns : (Q : Entries → Type 0) → ((more : Entries) → Met s at entry more → P (placed s at entry ∷ more) → Q more) → Walking Q phrases s next
+      walk_turns Q f =
           let t = turn in
           record {
             before = placed s at entry ∷ w.before;

@@ -155,12 +155,12 @@ module _ (voice : Voice) (s : List ℕ) (header start end : ℕ) (f : FoundChunk
   sequence_missing e = sym (rw (found_none _ (sym is ∙ e)))
 
   module _ (place size : ℕ) (e : f ≡ At place size) where
-    sequence-there : after_parts s voice (bare header 0) (found (chunks_in s start end))
+    sequence_there : after_parts s voice (bare header 0) (found (chunks_in s start end))
         ≡ ((if has_waves voice (found (chunks_in s start end)) then passed else refused 9 header)
         >> (setup_holds s (part_named (part_id parts.Setup voice) (found (chunks_in s start end)))
         >> after_setup s voice (bare header 0) (found (chunks_in s start end)) (bare place size)))
     unfolding after_parts required ◌>>=◌
-    sequence-there =
+    sequence_there =
         let a = found_at _ place size (sym is ∙ e) in
         let all = found (chunks_in s start end) in
         rw a.1
@@ -170,32 +170,32 @@ module _ (voice : Voice) (s : List ℕ) (header start end : ℕ) (f : FoundChunk
         ∙ ap (λ (n : ℕ). after_setup s voice (bare header 0) all (bare place n)) a.3))
 
     module _ (w : Bool) (p : w ≡ has_waves voice (found (chunks_in s start end))) where
-      pub waves-missing : not w ≡ true → check.Refused 9 header ≡ check_answer (after_parts s voice (bare header 0) (found (chunks_in s start end)))
-      waves-missing h =
+      pub waves_missing : not w ≡ true → check.Refused 9 header ≡ check_answer (after_parts s voice (bare header 0) (found (chunks_in s start end)))
+      waves_missing h =
           needs_no (has_waves voice (found (chunks_in s start end))) 9 header _ (check.Refused 9 header) (sym p ∙ not-true w h) refl
-          ∙ ap check_answer (sym sequence-there)
+          ∙ ap check_answer (sym sequence_there)
 
       module _ (h : not w ≡ false) (g : FoundChunk) (q : g ≡ found_chunk (part_named (part_id parts.Setup voice) (found (chunks_in s start end))))
           (r : Check) (k : r ≡ check_answer (setup_holds s (bare_of g))) where
         held : r ≡ check_answer (setup_holds s (part_named (part_id parts.Setup voice) (found (chunks_in s start end))))
         held = k ∙ ap (λ (o : FoundChunk). check_answer (setup_holds s (bare_of o))) q ∙ ap check_answer (setup_bare s _)
 
-        waves-there : (z : Check) → z ≡ check_answer (setup_holds s (part_named (part_id parts.Setup voice) (found (chunks_in s start end)))
+        waves_there : (z : Check) → z ≡ check_answer (setup_holds s (part_named (part_id parts.Setup voice) (found (chunks_in s start end)))
             >> after_setup s voice (bare header 0) (found (chunks_in s start end)) (bare place size))
             → z ≡ check_answer (after_parts s voice (bare header 0) (found (chunks_in s start end)))
-        waves-there z y =
-            needs_yes (has_waves voice (found (chunks_in s start end))) 9 header _ z (sym p ∙ not-false w h) y ∙ ap check_answer (sym sequence-there)
+        waves_there z y =
+            needs_yes (has_waves voice (found (chunks_in s start end))) 9 header _ z (sym p ∙ not-false w h) y ∙ ap check_answer (sym sequence_there)
 
-        pub setup-refused : (number at : ℕ) → r ≡ check.Refused number at
+        pub setup_refused : (number at : ℕ) → r ≡ check.Refused number at
             → check.Refused number at ≡ check_answer (after_parts s voice (bare header 0) (found (chunks_in s start end)))
-        setup-refused number at j = waves-there _ (then_refused _ r (check.Refused number at) _ number at held j refl)
+        setup_refused number at j = waves_there _ (then_refused _ r (check.Refused number at) _ number at held j refl)
 
-        pub setup-passed : (z : Check) → r ≡ check.Passed
+        pub setup_passed : (z : Check) → r ≡ check.Passed
             → z ≡ check_answer (after_setup s voice (bare header 0) (found (chunks_in s start end)) (bare place size))
             → z ≡ check_answer (after_parts s voice (bare header 0) (found (chunks_in s start end)))
-        setup-passed z j y = waves-there z (then_passed _ r z _ held j y)
+        setup_passed z j y = waves_there z (then_passed _ r z _ held j y)
 
-pub ruleset missing = (sequence_missing, waves-missing, setup-refused, setup-passed)
+pub ruleset missing = (sequence_missing, waves_missing, setup_refused, setup_passed)
 
 -- the list of a track
 

@@ -52,9 +52,9 @@ module _ (s : List ℕ) (at id : ℕ) (body rest : List ℕ) (e : drop at s ≡ 
   size_read short = number_back 4 (length body) s (at + 4) _ short with_size
 
   module _ (end : ℕ) (small : id < 4294967296) (short : length body < 4294967296) (within : at + 8 + length body ≤ end) where
-    chunk-met : chunk_step s end at ≡ met (record { id = id; place = at; size = length body }) (at + 8 + length body)
+    chunk_met_lem : chunk_step s end at ≡ met (record { id = id; place = at; size = length body }) (at + 8 + length body)
     unfolding chunk_step chunk_met read_chunk if◌then◌else◌
-    chunk-met =
+    chunk_met_lem =
         let i = id_read small in
         let n = size_read short in
         let room : 8 ≤ end - at = omega arith in
@@ -89,7 +89,7 @@ module _ (s : List ℕ) where
       let here = row_behind at one more rest e in
       let long = row_length one more in (
         at + 8 + length one.body,
-        chunk-met s at one.id one.body _ here end fits.0 fits.1 (omega arith),
+        chunk_met_lem s at one.id one.body _ here end fits.0 fits.1 (omega arith),
         row_stands more (at + 8 + length one.body) end rest fits.2 (chunk_behind s at one.id one.body _ here) (omega arith),
       )
 

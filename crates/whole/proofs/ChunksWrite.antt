@@ -62,11 +62,11 @@ module _ (s : List ℕ) (bytes : (k : ℕ) → s ! k < 256) where
   chunk_again at h =
       let size : ℕ = number 4 s (at + 4) in
       let long : length (part s (at + 8) size) ≡ size = part_length s (at + 8) size h in
-      let id-is : number_bytes 4 (number 4 s at) ≡ part s at 4 = number_again s bytes at 4 (omega arith) in
+      let id_is : number_bytes 4 (number 4 s at) ≡ part s at 4 = number_again s bytes at 4 (omega arith) in
       let size_is : number_bytes 4 (length (part s (at + 8) size)) ≡ part s (at + 4) 4 =
       ap (number_bytes 4) long ∙ number_again s bytes (at + 4) 4 (omega arith) in
       let header : number_bytes 4 (number 4 s at) ++ number_bytes 4 (length (part s (at + 8) size)) ≡ part s at 8 =
-      ap₂ (λ (l : List ℕ) (m : List ℕ). l ++ m) id-is size_is ∙ sym (parts_joined s at 4 4) in
+      ap₂ (λ (l : List ℕ) (m : List ℕ). l ++ m) id_is size_is ∙ sym (parts_joined s at 4 4) in
       ap (λ (l : List ℕ). l ++ part s (at + 8) size) header ∙ sym (parts_joined s at 8 size)
 
   pub chunk_writes : (chunk : Chunk) (at : ℕ) → chunk ≡ chunk_at s at → place_after chunk ≤ length s

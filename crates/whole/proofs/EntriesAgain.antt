@@ -18,7 +18,7 @@ use Rattle.entries.specs.Rows.{entries_in}
 use Rattle.whole.proofs.EntriesFit.{EntryFits, EntriesFit}
 use Rattle.whole.proofs.SeekStands.{reads_stands}
 use Rattle.whole.proofs.SeekReads.{seek_reads}
-use Rattle.whole.proofs.SeekWrites.{seek-some, seek-fits, seek-places}
+use Rattle.whole.proofs.SeekWrites.{seek_some, seek_fits, seek_places}
 use Rattle.whole.proofs.OrderLetters.{OrderIs, OrdersAre, orders_said}
 
 -- four numbers each
@@ -74,17 +74,17 @@ none_given phrases letters = refl
 module _ (phrases : Bool) (s : List ℕ) (bytes : (k : ℕ) → s ! k < 256) (placed : List (Placed Entry)) (reads : seek_of (point_width phrases) s ≡ fine placed) where
   again_in_turn : in_turn in_order [] (walk_of (entries_placed (point_width phrases) (entries_in placed))) ≡ fine placed
   again_in_turn =
-      rw (seek-places (point_width phrases) s bytes placed reads) (all_in_turn in_order placed [] (reads_stands (point_width phrases) s placed reads).passes)
+      rw (seek_places (point_width phrases) s bytes placed reads) (all_in_turn in_order placed [] (reads_stands (point_width phrases) s placed reads).passes)
 
   pub entries_given_again : entries_given phrases (letters_of placed) (entries_numbers placed) ≡ fine placed
   unfolding entries_given ◌>>=◌
   entries_given_again =
       let count : length (entries_numbers placed) / 4 ≡ length placed = omega (arith, numbers_length placed) in
-      let fit = seek-fits (point_width phrases) s bytes placed reads in
+      let fit = seek_fits (point_width phrases) s bytes placed reads in
       rw (count, from_again phrases (letters_of placed) placed fit (orders_said phrases s placed reads)) again_in_turn
 
   -- written and read again, where a comma stood behind the last entry too
   pub entries_read_again : seek_of (point_width phrases) (seek_bytes (point_width phrases) (entries_in placed)) ≡ fine placed
   entries_read_again =
-      let some : 0 < length (entries_in placed) = omega (arith, seek-some (point_width phrases) s bytes placed reads, length-map placed (λ entry. entry.what)) in
-      (seek_reads (point_width phrases) (entries_in placed) placed some (seek-fits (point_width phrases) s bytes placed reads) again_in_turn).0
+      let some : 0 < length (entries_in placed) = omega (arith, seek_some (point_width phrases) s bytes placed reads, length-map placed (λ entry. entry.what)) in
+      (seek_reads (point_width phrases) (entries_in placed) placed some (seek_fits (point_width phrases) s bytes placed reads) again_in_turn).0

@@ -19,7 +19,7 @@ use Rattle.entries.specs.Rows.{entries_in}
 use Rattle.whole.proofs.EntriesFit.{EntryFits, EntriesFit}
 use Rattle.whole.proofs.SeekStands.{reads_stands}
 use Rattle.whole.proofs.EntryReads.{entry_length}
-use Rattle.whole.proofs.SeekWrites.{seek-fits, seek-writes-to-last}
+use Rattle.whole.proofs.SeekWrites.{seek_fits, seek_writes_to_last}
 use Rattle.whole.proofs.OrderLetters.{OrderIs, OrdersAre, orders_said}
 
 -- THE LETTERS
@@ -103,12 +103,12 @@ module _ (phrases : Bool) (letters : List ℕ) (few : length letters < 429496729
 
 module _ (phrases : Bool) (s : List ℕ) (bytes : AllBelow 256 s) (entries : List (Placed Entry)) (reads : seek_of (point_width phrases) s ≡ fine entries) where
   pub order_letters_below : AllBelow 256 (letters_of entries)
-  order_letters_below = said_below (point_width phrases) entries (seek-fits (point_width phrases) s bytes entries reads)
+  order_letters_below = said_below (point_width phrases) entries (seek_fits (point_width phrases) s bytes entries reads)
 
   pub order_letters_few : length (letters_of entries) ≤ 1 + length s
   order_letters_few =
       let width : ℕ = point_width phrases in
-      let all = seek-writes-to-last width s bytes entries reads in
+      let all = seek_writes_to_last width s bytes entries reads in
       omega (
         arith,
         said_few width entries,
@@ -124,5 +124,5 @@ module _ (phrases : Bool) (s : List ℕ) (bytes : AllBelow 256 s) (entries : Lis
 
   pub entry_numbers_below : length s ≤ 65536 → AllBelow 4294967296 (entries_numbers entries)
   entry_numbers_below few =
-      numbers_below phrases (letters_of entries) (omega (arith, order_letters_few)) entries (seek-fits (point_width phrases) s bytes entries reads)
+      numbers_below phrases (letters_of entries) (omega (arith, order_letters_few)) entries (seek_fits (point_width phrases) s bytes entries reads)
       (orders_said phrases s entries reads)

@@ -72,16 +72,16 @@ module _ (phrases : Bool) (letters : List ℕ) where
           are = ap entries_in all.0 ∙ placed_things (λ entry. length (entry_bytes (point_width phrases) entry) + 1) f.0 0;
         }
 
-    pub given-fits : EntriesFit (point_width phrases) (entries_in placed)
-    given-fits = let t = taken in subst (EntriesFit (point_width phrases)) (sym t.are) t.fit
+    pub given_fits : EntriesFit (point_width phrases) (entries_in placed)
+    given_fits = let t = taken in subst (EntriesFit (point_width phrases)) (sym t.are) t.fit
 
-    pub given-in-turn : in_turn in_order [] (walk_of (entries_placed (point_width phrases) (entries_in placed))) ≡ fine placed
-    given-in-turn = let t = taken in rw t.are t.turn
+    pub given_in_turn : in_turn in_order [] (walk_of (entries_placed (point_width phrases) (entries_in placed))) ≡ fine placed
+    given_in_turn = let t = taken in rw t.are t.turn
 
-    pub given-places : entries_placed (point_width phrases) (entries_in placed) ≡ placed
-    given-places = sym (in_turn_all in_order (entries_placed (point_width phrases) (entries_in placed)) [] placed given-in-turn).0
+    pub given_places : entries_placed (point_width phrases) (entries_in placed) ≡ placed
+    given_places = sym (in_turn_all in_order (entries_placed (point_width phrases) (entries_in placed)) [] placed given_in_turn).0
 
-    pub given-reads : 0 < length placed → seek_of (point_width phrases) (seek_bytes (point_width phrases) (entries_in placed)) ≡ fine placed
-    given-reads some =
+    pub given_reads : 0 < length placed → seek_of (point_width phrases) (seek_bytes (point_width phrases) (entries_in placed)) ≡ fine placed
+    given_reads some =
         let long : 0 < length (entries_in placed) = omega (arith, length-map placed (λ entry. entry.what)) in
-        (seek_reads (point_width phrases) (entries_in placed) placed long given-fits given-in-turn).0
+        (seek_reads (point_width phrases) (entries_in placed) placed long given_fits given_in_turn).0

@@ -85,10 +85,10 @@ module _ (width : ℕ) (s : List ℕ) (at : ℕ) (rest : List ℕ) where
       let first : s ! at ≡ 0x50 = h.first ∙ omega arith in
       let second : s ! (at + 1) ≡ letter = h.second ∙ omega arith in
       let is = phrase_tag width s at (omega arith) h.third letter first second fits.0 in
-      let start-there = number_back 4 from s (at + 3) (number_bytes 4 to ++ rest) fits.1 split in
-      let stop-there = number_back 4 to s (at + 3 + 4) rest fits.2 later in
+      let start_there = number_back 4 from s (at + 3) (number_bytes 4 to ++ rest) fits.1 split in
+      let stop_there = number_back 4 to s (at + 3 + 4) rest fits.2 later in
       let ends : at + length (entry_bytes width (phrase letter from to)) ≡ at + 3 + 8 = omega (arith, entry_ends (phrase letter from to)) in
-      rw (is, ends) (simp (le-ltb, start-there, stop-there))
+      rw (is, ends) (simp (le-ltb, start_there, stop_there))
   entry_reads (order letters) fits none-follows e =
       let h = entry_head (order letters) e in
       let count : letters_in_front (drop (at + 3) s) ≡ length letters = ap letters_in_front h.after ∙ letters_before letters rest fits none-follows in

@@ -48,14 +48,14 @@ module _ (width : ℕ) (s : List ℕ) (bytes : (k : ℕ) → s ! k < 256) (at : 
   entry_stands entry size colon tagged fit room same =
       let end = at + 3 + size in
       let one : suc (at + 2) ≡ at + 3 = omega arith in
-      let tag-part : number_bytes 2 (tag entry) ≡ part s at 2 = ap (number_bytes 2) (sym tagged) ∙ number_again s bytes at 2 (omega arith) in
+      let tag_part : number_bytes 2 (tag entry) ≡ part s at 2 = ap (number_bytes 2) (sym tagged) ∙ number_again s bytes at 2 (omega arith) in
       let behind : drop (at + 2) s ≡ (0x3A ∷ data_bytes width entry) ++ drop end s =
       drop-cons s (at + 2) 0 (omega arith) ∙ ap₂ (λ (b : ℕ) (l : List ℕ). b ∷ l) colon
       (ap (λ (n : ℕ). drop n s) one ∙ cut_after s (at + 3) size ∙ ap (λ (l : List ℕ). l ++ drop end s) (sym same)) in
       record {
         fits = fit;
         splits =
-            cut_after s at 2 ∙ ap₂ (λ (l : List ℕ) (m : List ℕ). l ++ m) (sym tag-part) behind
+            cut_after s at 2 ∙ ap₂ (λ (l : List ℕ) (m : List ℕ). l ++ m) (sym tag_part) behind
             ∙ sym (append_assoc (number_bytes 2 (tag entry)) (0x3A ∷ data_bytes width entry) (drop end s));
         ends = omega (arith, entry_length width entry, ap length same, part_length s (at + 3) size room);
         within = room;
@@ -69,21 +69,21 @@ module _ (width : ℕ) (s : List ℕ) (bytes : (k : ℕ) → s ! k < 256) (at : 
   Written Refused = Unit
 
   module _ (room : at + 3 ≤ length s) (colon : s ! (at + 2) ≡ 0x3A) where
-    point-written : (entry : Entry) → number 2 s at ≡ tag entry → EntryFits width entry → data_bytes width entry ≡ number_bytes width (number width s (at + 3))
+    point_written : (entry : Entry) → number 2 s at ≡ tag entry → EntryFits width entry → data_bytes width entry ≡ number_bytes width (number width s (at + 3))
         → (length s <? at + 3 + width) ≡ false → EntryThere width s at entry (at + 3 + width)
-    point-written entry tagged fit same h =
+    point_written entry tagged fit same h =
         let enough = ltb-false (length s) (at + 3 + width) h in
         entry_stands entry width colon tagged fit enough (same ∙ number_again s bytes (at + 3) width enough)
 
-    data-written : (tagged : ℕ) → number 2 s at ≡ tagged → Written (data_at width s tagged (at + 3))
+    data_written : (tagged : ℕ) → number 2 s at ≡ tagged → Written (data_at width s tagged (at + 3))
     unfolding data_at data_bytes tag
-    data-written tagged is =
+    data_written tagged is =
         if_all Written _ _ _
         (λ t. if_all Written _ _ _ (λ h. tt) (λ h.
-        point-written (start _) (is ∙ eqb-true tagged 0x7374 t) (number_small s bytes (at + 3) width) refl h))
+        point_written (start _) (is ∙ eqb-true tagged 0x7374 t) (number_small s bytes (at + 3) width) refl h))
         (λ no_start. if_all Written _ _ _
         (λ t. if_all Written _ _ _ (λ h. tt) (λ h.
-        point-written (stop _) (is ∙ eqb-true tagged 0x7370 t) (number_small s bytes (at + 3) width) refl h))
+        point_written (stop _) (is ∙ eqb-true tagged 0x7370 t) (number_small s bytes (at + 3) width) refl h))
         (λ no_stop. if_all Written _ _ _
         (λ t.
         let count = letters_in_front (drop (at + 3) s) in
@@ -91,9 +91,9 @@ module _ (width : ℕ) (s : List ℕ) (bytes : (k : ℕ) → s ! k < 256) (at : 
         entry_stands (order (part s (at + 3) count)) count colon (is ∙ eqb-true tagged 0x534C t) fit (letters_reach s (at + 3) room) refl)
         (λ no_order. tt)))
 
-    phrase-written : s ! at ≡ 0x50 → is_letter (s ! (at + 1)) ≡ true → Written (phrase_at s (s ! (at + 1)) (at + 3))
+    phrase_written : s ! at ≡ 0x50 → is_letter (s ! (at + 1)) ≡ true → Written (phrase_at s (s ! (at + 1)) (at + 3))
     unfolding phrase_at data_bytes tag
-    phrase-written first known =
+    phrase_written first known =
         if_all Written _ _ _ (λ h. tt) (λ h.
         let enough : at + 3 + 8 ≤ length s = ltb-false (length s) (at + 3 + 8) h in
         let p : s ! (at + 0) ≡ 0x50 = ap (λ (n : ℕ). s ! n) (add-zero at) ∙ first in
@@ -114,8 +114,8 @@ module _ (width : ℕ) (s : List ℕ) (bytes : (k : ℕ) → s ! k < 256) (at : 
       let room : at + 3 ≤ length s = ltb-false (length s) (at + 3) h in
       let colon : s ! (at + 2) ≡ 0x3A = eqb-true (s ! (at + 2)) 0x3A (not-false _ i) in
       if_all Written _ _ _
-      (λ j. phrase-written room colon (eqb-true (s ! at) 0x50 (and_left _ _ j)) (and_right _ _ j))
-      (λ j. data-written room colon _ refl)))
+      (λ j. phrase_written room colon (eqb-true (s ! at) 0x50 (and_left _ _ j)) (and_right _ _ j))
+      (λ j. data_written room colon _ refl)))
 
 -- behind an entry: the end of the body, or a comma and what the walk goes on to
 pub data Behind (s : List ℕ) (end next : ℕ) : Type 0 where

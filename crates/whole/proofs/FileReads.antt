@@ -22,7 +22,7 @@ use Rattle.whole.proofs.Bounded.{AllBelow}
 use Rattle.whole.proofs.ChunkRow.{Bodied, bodied, row_bytes, chunk_from, chunks_from}
 use Rattle.whole.proofs.ChunksRead.{row_fits}
 use Rattle.whole.proofs.FrameReads.{file_length, file_holds, file_code, frame_reads}
-use Rattle.whole.proofs.TrackNumbers.{tracks-row-allowed, tracks-row-named, tracks_row_tracked}
+use Rattle.whole.proofs.TrackNumbers.{tracks_row_allowed, tracks_row_named, tracks_row_tracked}
 use Rattle.whole.proofs.TracksGiven.{number_of, Ready, arrangement_ready}
 use Rattle.whole.proofs.TracksRead.{body_of_track, row_of_tracks, row_of_tracks_lem, tracks_read}
 
@@ -67,16 +67,16 @@ module _ (arrangement : Arrangement) (ready : Ready arrangement) where
         let s : List ℕ = file_with (row_bytes row) in
         let long = file_length (row_bytes row) in
         let five = ready.five in
-        let named = tracks-row-named number_of body_of_track arrangement.contents arrangement.tracks ready.once in
+        let named = tracks_row_named number_of body_of_track arrangement.contents arrangement.tracks ready.once in
         let framed =
         frame_reads (bodied CNTI arrangement.contents) (row_of_tracks arrangement.tracks) refl (omega arith)
         (tracks_row_tracked number_of body_of_track arrangement.tracks ready.some ready.once) named
-        (tracks-row-allowed number_of body_of_track arrangement.contents arrangement.tracks ready.once) (omega arith) in
+        (tracks_row_allowed number_of body_of_track arrangement.contents arrangement.tracks ready.once) (omega arith) in
         let held = file_holds row in
         let fits = row_fits row named (omega arith) in
         let all = tracks_read s arrangement.tracks (16 + length arrangement.contents) ready.ready held.1 fits.2 in
         let first : Top = leaf (chunk_from 8 (bodied CNTI arrangement.contents)) in
-        let contents-is : part s 16 5 ≡ arrangement.contents = ap (part s 16) (sym five) ∙ held.0 in
+        let contents_is : part s 16 5 ≡ arrangement.contents = ap (part s 16) (sym five) ∙ held.0 in
         record {
           file =
               record {
@@ -87,7 +87,7 @@ module _ (arrangement : Arrangement) (ready : Ready arrangement) where
               };
           reads = contents_read s (chunks_from 8 row) (first ∷ all.0) framed (rw (contents_leaf s 8 arrangement.contents, all.1) refl);
           matches = eq-eqb _ _ (file_code (row_bytes row));
-          holds = rw (contents-is, all.2) refl;
+          holds = rw (contents_is, all.2) refl;
           laid = both_true _ _ (eq-eqb (length arrangement.contents) 5 five) all.3;
         }
 

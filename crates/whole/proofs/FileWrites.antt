@@ -36,10 +36,10 @@ module _ (s : List ℕ) (bytes : AllBelow 256 s) (file : File) (reads : contents
   chunks_again laid =
       let first = laid.first in
       let five = laid.five in
-      let id-is : CNTI ≡ laid.contents.id = sym laid.named in
+      let id_is : CNTI ≡ laid.contents.id = sym laid.named in
       let body_is : part s 16 5 ≡ body_bytes s laid.contents = rw (first, five) refl in
       rw laid.tops
-      (ap₂ (λ (l : List ℕ) (m : List ℕ). l ++ m) (ap₂ chunk_bytes id-is body_is) (tracks_again s bytes laid.tracks laid.laid))
+      (ap₂ (λ (l : List ℕ) (m : List ℕ). l ++ m) (ap₂ chunk_bytes id_is body_is) (tracks_again s bytes laid.tracks laid.laid))
 
   pub read_writes : file_bytes (held_in s file) ≡ s
   unfolding file_bytes held_in

@@ -22,7 +22,7 @@ use Rattle.items.proofs.Standing.{body_stands}
 use Rattle.writing.proofs.Stands.{Stands, stands_first, stands_second, stands_between}
 use Rattle.writing.proofs.ReadBack.{stands_reads}
 use Rattle.inverse.proofs.Sequence.{AllFit}
-use Rattle.inverse.proofs.ReadWrites.{body-fits, body-writes}
+use Rattle.inverse.proofs.ReadWrites.{body_fits, body_writes}
 use Rattle.inverse.proofs.WrittenReads.{meets}
 
 abbrev pub places_of : {A : Type 0} → List (Placed A) → List ℕ
@@ -78,8 +78,8 @@ written_places voice items placed fit reads same =
 pub read_places : (voice : Voice) (s : List ℕ) (placed : List (Placed (Item Event))) → ((k : ℕ) → s ! k < 256) → body_of voice s ≡ fine placed
     → places_of (items_placed (contents_in s placed)) ≡ places_of placed
 read_places voice s placed bytes reads =
-    let whole : bytes_of handy_phone (contents_in s placed) ≡ s = body-writes voice s bytes placed reads in
-    written_places voice (contents_in s placed) placed (body-fits voice s bytes placed reads)
+    let whole : bytes_of handy_phone (contents_in s placed) ≡ s = body_writes voice s bytes placed reads in
+    written_places voice (contents_in s placed) placed (body_fits voice s bytes placed reads)
     (ap (body_of voice) whole ∙ reads) (ap (λ (t : List ℕ). contents_in t placed) whole)
 
 -- so that points hold in the one where they hold in the other

@@ -27,7 +27,7 @@ use Rattle.items.proofs.Standing.{body_stands}
 use Rattle.writing.proofs.Numbers.{is_note_lem, is_wave_lem, is_control, is_exclusive}
 use Rattle.writing.proofs.WriteBack.{timed_writes}
 use Rattle.inverse.proofs.Fitting.{read_fits}
-use Rattle.inverse.proofs.ReadWrites.{body-some}
+use Rattle.inverse.proofs.ReadWrites.{body_some}
 use Rattle.inverse.proofs.WordBack.{given_word_back}
 
 -- ITS NUMBERS have their bits in a word, where it fits a body of at most 65536 bytes
@@ -184,5 +184,5 @@ module _ (voice : Voice) (s : List ℕ) (bytes : (k : ℕ) → s ! k < 256) (sma
   unfolding items_given if◌then◌else◌ contents_in
   items_given_again placed reads =
       let count : length (items_numbers placed) / 2 ≡ length placed = omega (arith, item_numbers_length placed) in
-      let some : length placed ≡ 0 → ⊥ = λ e. omega (arith, body-some voice s bytes placed reads, length-map placed (λ item. content_in s item.what)) in
+      let some : length placed ≡ 0 → ⊥ = λ e. omega (arith, body_some voice s bytes placed reads, length-map placed (λ item. content_in s item.what)) in
       rw (count, ne_eqb (length placed) 0 some) (from_taken placed 0 0 (body_stands voice s placed reads))

@@ -34,29 +34,29 @@ module _ (voice : Voice) (s : List ℕ) (bytes : (k : ℕ) → s ! k < 256) wher
     abbrev Below : Item Event → Type 0
     Below item = (duration_of item < 4294967296) × (item_word item < 4294967296)
 
-    met-below : (at : ℕ) (item : Placed (Item Event)) (next : ℕ) (j : ReadItem) → item_at voice s at ≡ j → item_met at j ≡ met item next → Below item.what
+    met_below : (at : ℕ) (item : Placed (Item Event)) (next : ℕ) (j : ReadItem) → item_at voice s at ≡ j → item_met at j ≡ met item next → Below item.what
     unfolding item_met duration_of item_word
-    met-below at item next (Timed duration event n) is e =
+    met_below at item next (Timed duration event n) is e =
         let same : ◌≡◌ {A = Placed (Item Event)} (record { place = at; what = timed duration event }) item = cc in
         let h = event_in_word voice s bytes small at duration event n is in
         subst (λ (p : Placed (Item Event)). Below p.what) same (omega (arith, h.0), word_below event h.1)
-    met-below at item next (EndMark n) is e =
+    met_below at item next (EndMark n) is e =
         let same : ◌≡◌ {A = Placed (Item Event)} (record { place = at; what = end_mark }) item = cc in
         subst (λ (p : Placed (Item Event)). Below p.what) same (omega arith, omega arith)
-    met-below at item next (Refused number place) is e = let z : ◌≡◌ {A = ℕ} 0 1 = cc in absurd (omega arith)
+    met_below at item next (Refused number place) is e = let z : ◌≡◌ {A = ℕ} 0 1 = cc in absurd (omega arith)
 
-    stand-below : (placed : List (Placed (Item Event))) (at : ℕ) → Stand (length s) (item_step voice s) at placed → AllBelow 4294967296 (items_numbers placed)
+    stand_below : (placed : List (Placed (Item Event))) (at : ℕ) → Stand (length s) (item_step voice s) at placed → AllBelow 4294967296 (items_numbers placed)
     unfolding item_step items_numbers
-    stand-below [] at st = none_below 4294967296 (omega arith)
-    stand-below (item ∷ rest) at st =
-        let h = met-below at item st.0 (item_at voice s at) refl st.1 in
+    stand_below [] at st = none_below 4294967296 (omega arith)
+    stand_below (item ∷ rest) at st =
+        let h = met_below at item st.0 (item_at voice s at) refl st.1 in
         let numbers : List ℕ = items_numbers rest in
         one_below 4294967296 (duration_of item.what) (item_word item.what ∷ numbers) h.0
-        (one_below 4294967296 (item_word item.what) numbers h.1 (stand-below rest st.0 st.2))
+        (one_below 4294967296 (item_word item.what) numbers h.1 (stand_below rest st.0 st.2))
 
   module _ (placed : List (Placed (Item Event))) (reads : body_of voice s ≡ fine placed) where
-    pub items-few : length placed ≤ length s
-    items-few = omega (arith, stand_short (length s) (item_step voice s) (item_goes voice s) placed 0 (body_stands voice s placed reads))
+    pub items_few : length placed ≤ length s
+    items_few = omega (arith, stand_short (length s) (item_step voice s) (item_goes voice s) placed 0 (body_stands voice s placed reads))
 
-    pub item-numbers-below : length s ≤ 65536 → AllBelow 4294967296 (items_numbers placed)
-    item-numbers-below small = stand-below small placed 0 (body_stands voice s placed reads)
+    pub item_numbers_below : length s ≤ 65536 → AllBelow 4294967296 (items_numbers placed)
+    item_numbers_below small = stand_below small placed 0 (body_stands voice s placed reads)

@@ -92,25 +92,25 @@ module _ (width : ℕ) (s : List ℕ) (bytes : (k : ℕ) → s ! k < 256) where
         go [] ends = absurd (omega (arith, st.some))
         go (entry ∷ rest) stands = entries_there entry rest 0 stands
 
-    pub seek-some : 0 < length placed
-    seek-some = go placed (reads_stands width s placed reads)
+    pub seek_some : 0 < length placed
+    seek_some = go placed (reads_stands width s placed reads)
       where
         go : (all : List (Placed Entry)) → SeekStands width s all → 0 < length all
         go [] st = absurd (omega (arith, st.some, st.stands))
         go (entry ∷ rest) st = omega arith
 
-    pub seek-fits : EntriesFit width (entries_in placed)
-    seek-fits = all_there.fit
+    pub seek_fits : EntriesFit width (entries_in placed)
+    seek_fits = all_there.fit
 
-    pub seek-places : entries_placed width (entries_in placed) ≡ placed
+    pub seek_places : entries_placed width (entries_in placed) ≡ placed
     unfolding entries_placed
-    seek-places = all_there.places
+    seek_places = all_there.places
 
-    pub seek-writes-to-last : (last : List ℕ) × AfterLast last × (s ≡ seek_bytes width (entries_in placed) ++ last)
-    seek-writes-to-last = (all_there.last, all_there.is_last, all_there.bytes)
+    pub seek_writes_to_last : (last : List ℕ) × AfterLast last × (s ≡ seek_bytes width (entries_in placed) ++ last)
+    seek_writes_to_last = (all_there.last, all_there.is_last, all_there.bytes)
 
-    pub seek-writes : length (seek_bytes width (entries_in placed)) ≡ length s → seek_bytes width (entries_in placed) ≡ s
-    seek-writes long =
+    pub seek_writes : length (seek_bytes width (entries_in placed)) ≡ length s → seek_bytes width (entries_in placed) ≡ s
+    seek_writes long =
         let all = seek_bytes width (entries_in placed) in
         let t = all_there in
         let short : length t.last ≡ 0 = omega (arith, ap length t.bytes, length-append all t.last) in

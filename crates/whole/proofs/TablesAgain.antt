@@ -72,22 +72,22 @@ module _ (s : List ℕ) (bytes : AllBelow 256 s) (file : File) (reads : contents
   others = part s 16 5 ++ bytes_held s file.tops
 
   module _ (laid : FileLaid s file) where
-    contents-long : length (part s 16 5) ≡ 5
-    contents-long = let within = laid.within in part_length s 16 5 (omega arith)
+    contents_long : length (part s 16 5) ≡ 5
+    contents_long = let within = laid.within in part_length s 16 5 (omega arith)
 
-    all-given : given_in numbers others ≡ givens_held s laid.tracks
+    all_given : given_in numbers others ≡ givens_held s laid.tracks
     unfolding given_in numbers_held bytes_held
-    all-given =
-        ap (given_from (length numbers) numbers) (drop_at (part s 16 5) (bytes_held s file.tops) 5 contents-long)
+    all_given =
+        ap (given_from (length numbers) numbers) (drop_at (part s 16 5) (bytes_held s file.tops) 5 contents_long)
         ∙ rw laid.tops (tables_split s laid.tracks (length (numbers_held laid.tracks)) laid.laid (omega arith))
 
-    all-taken : arrangement_of numbers others ≡ fine (held_in s file)
+    all_taken : arrangement_of numbers others ≡ fine (held_in s file)
     unfolding arrangement_of held_in tracks_held if◌then◌else◌ ◌>>◌ ◌>>=◌
-    all-taken =
-        let front : take 5 others ≡ part s 16 5 = take_at (part s 16 5) (bytes_held s file.tops) 5 contents-long in
+    all_taken =
+        let front : take 5 others ≡ part s 16 5 = take_at (part s 16 5) (bytes_held s file.tops) 5 contents_long in
         let many : length (givens_held s laid.tracks) ≡ 0 → ⊥ = λ e. omega (arith, givens_long s laid.tracks laid.laid, file_tracked s file laid) in
         rw (
-          all-given,
+          all_given,
           file_once s file laid,
           ne_eqb (length (givens_held s laid.tracks)) 0 many,
           tracks_taken s bytes few laid.tracks 0 laid.laid,
@@ -96,12 +96,12 @@ module _ (s : List ℕ) (bytes : AllBelow 256 s) (file : File) (reads : contents
         ) refl
 
   pub tables_given_again : arrangement_of (numbers_held file.tops) (part s 16 5 ++ bytes_held s file.tops) ≡ fine (held_in s file)
-  tables_given_again = all-taken (file_laid s bytes file reads ok)
+  tables_given_again = all_taken (file_laid s bytes file reads ok)
 
   module _ (right : file.matches ≡ true) (sixteen : length file.tops ≤ 17) (room : ℕ) (enough : length s ≤ room) where
-    tracks-few : length (held_in s file).tracks ≤ 16
+    tracks_few : length (held_in s file).tracks ≤ 16
     unfolding held_in tracks_held
-    tracks-few =
+    tracks_few =
         let laid = file_laid s bytes file reads ok in
         let long = held_long s laid.tracks laid.laid in
         rw laid.tops (omega (arith, ap length laid.tops))
@@ -110,4 +110,4 @@ module _ (s : List ℕ) (bytes : AllBelow 256 s) (file : File) (reads : contents
     unfolding write_of within_room if◌then◌else◌ ◌or◌ ◌>>◌ ◌>>=◌
     writes_again =
         let same = read_writes s bytes file reads ok right in
-        rw (tables_given_again, le-ltb 16 (length (held_in s file).tracks) tracks-few, same, le-ltb 65536 (length s) few, le-ltb room (length s) enough) refl
+        rw (tables_given_again, le-ltb 16 (length (held_in s file).tracks) tracks_few, same, le-ltb 65536 (length s) few, le-ltb room (length s) enough) refl

@@ -19,7 +19,7 @@ use Rattle.model.specs.Layout.{numbers_held, bytes_held, is_laid}
 use Rattle.model.specs.declared.Voice.TheVariants.{Score}
 use Rattle.whole.proofs.Bounded.{AllBelow, part_below, both_below, four_lists_below, none_below, one_below}
 use Rattle.whole.proofs.EntriesBelow.{order_letters_below, order_letters_few, entries_few, entry_numbers_below, four_below}
-use Rattle.whole.proofs.ItemsBelow.{items-few, item-numbers-below}
+use Rattle.whole.proofs.ItemsBelow.{items_few, item_numbers_below}
 use Rattle.whole.proofs.ChunksRead.{chunk_length}
 use Rattle.whole.proofs.TrackRow.{seek_part}
 use Rattle.whole.proofs.TrackWrites.{SeekLaid, TrackLaid}
@@ -71,14 +71,14 @@ module _ (s : List ℕ) (bytes : AllBelow 256 s) (few : length s ≤ 65536) wher
       let small = body_below s bytes chunk track laid.1 in
       let short = body_short s bytes chunk track laid.1 in
       let said = entries_below chunk track laid.1 in
-      let items = item-numbers-below Score track.body small track.items laid.1.reads (omega arith) in
-      let entry-count : ℕ = length track.entries in
+      let items = item_numbers_below Score track.body small track.items laid.1.reads (omega arith) in
+      let entry_count : ℕ = length track.entries in
       let item_count : ℕ = length track.items in
-      let letter-count : ℕ = length (letters_of track.entries) in
+      let letter_count : ℕ = length (letters_of track.entries) in
       let counts =
-      four_below entry-count item_count letter-count (length track.body) said.many
-      (omega (arith, items-few Score track.body small track.items laid.1.reads)) said.few (omega arith) in
-      four_lists_below 4294967296 (entry-count ∷ item_count ∷ letter-count ∷ length track.body ∷ []) (entries_numbers track.entries)
+      four_below entry_count item_count letter_count (length track.body) said.many
+      (omega (arith, items_few Score track.body small track.items laid.1.reads)) said.few (omega arith) in
+      four_lists_below 4294967296 (entry_count ∷ item_count ∷ letter_count ∷ length track.body ∷ []) (entries_numbers track.entries)
       (items_numbers track.items) (numbers_held tops) counts said.numbers items (numbers_held_lem tops laid.2)
 
   bytes_held_lem : (tops : List Top) → TracksLaid s tops → AllBelow 256 (bytes_held s tops)

@@ -20,23 +20,23 @@ bytes_with given others = (given.number ∷ given.fixed) ++ given.letters ++ giv
 
 module _ (given : Given) (entries items : ℕ) (six : length given.fixed ≡ 6) (four_each : length given.entries ≡ 4 * entries)
     (two-each : length given.items ≡ 2 * items) (numbers bytes : List ℕ) where
-  abbrev allNumbers : List ℕ
-  allNumbers = numbers_with given entries items numbers
+  abbrev all_numbers : List ℕ
+  all_numbers = numbers_with given entries items numbers
 
   abbrev all_bytes : List ℕ
   all_bytes = bytes_with given bytes
 
   -- what follows each of its parts
-  entries_follow : drop 4 allNumbers ≡ given.entries ++ (given.items ++ numbers)
+  entries_follow : drop 4 all_numbers ≡ given.entries ++ (given.items ++ numbers)
   unfolding numbers_with
   entries_follow = append_assoc given.entries given.items numbers
 
-  items_follow : drop (4 + 4 * entries) allNumbers ≡ given.items ++ numbers
-  items_follow = ap (λ (n : ℕ). drop (4 + n) allNumbers) (sym four_each) ∙ follows_behind allNumbers 4 given.entries _ entries_follow
+  items_follow : drop (4 + 4 * entries) all_numbers ≡ given.items ++ numbers
+  items_follow = ap (λ (n : ℕ). drop (4 + n) all_numbers) (sym four_each) ∙ follows_behind all_numbers 4 given.entries _ entries_follow
 
-  numbers_follow : drop (4 + 4 * entries + 2 * items) allNumbers ≡ numbers
+  numbers_follow : drop (4 + 4 * entries + 2 * items) all_numbers ≡ numbers
   numbers_follow =
-      ap (λ (n : ℕ). drop (4 + 4 * entries + n) allNumbers) (sym two-each) ∙ follows_behind allNumbers (4 + 4 * entries) given.items numbers items_follow
+      ap (λ (n : ℕ). drop (4 + 4 * entries + n) all_numbers) (sym two-each) ∙ follows_behind all_numbers (4 + 4 * entries) given.items numbers items_follow
 
   fixed_follow : drop 1 all_bytes ≡ given.fixed ++ (given.letters ++ (given.source ++ bytes))
   unfolding bytes_with
@@ -52,45 +52,45 @@ module _ (given : Given) (entries items : ℕ) (six : length given.fixed ≡ 6) 
   bytes_follow = follows_behind all_bytes (7 + length given.letters) given.source bytes source_follows
 
   -- THE FIRST TRACK is this one, and behind it are the others
-  first_is : first_given allNumbers all_bytes ≡ given
+  first_is : first_given all_numbers all_bytes ≡ given
   unfolding first_given numbers_with bytes_with
   first_is =
-      let fixed-is : part all_bytes 1 6 ≡ given.fixed = ap (part all_bytes 1) (sym six) ∙ follows_part all_bytes 1 given.fixed _ fixed_follow in
-      let entries-is : part allNumbers 4 (4 * entries) ≡ given.entries =
-      ap (part allNumbers 4) (sym four_each) ∙ follows_part allNumbers 4 given.entries _ entries_follow in
-      let items-is : part allNumbers (4 + 4 * entries) (2 * items) ≡ given.items =
-      ap (part allNumbers (4 + 4 * entries)) (sym two-each) ∙ follows_part allNumbers (4 + 4 * entries) given.items numbers items_follow in
-      let letters-is : part all_bytes 7 (length given.letters) ≡ given.letters = follows_part all_bytes 7 given.letters _ letters_follow in
+      let fixed_is : part all_bytes 1 6 ≡ given.fixed = ap (part all_bytes 1) (sym six) ∙ follows_part all_bytes 1 given.fixed _ fixed_follow in
+      let entries_is : part all_numbers 4 (4 * entries) ≡ given.entries =
+      ap (part all_numbers 4) (sym four_each) ∙ follows_part all_numbers 4 given.entries _ entries_follow in
+      let items_is : part all_numbers (4 + 4 * entries) (2 * items) ≡ given.items =
+      ap (part all_numbers (4 + 4 * entries)) (sym two-each) ∙ follows_part all_numbers (4 + 4 * entries) given.items numbers items_follow in
+      let letters_is : part all_bytes 7 (length given.letters) ≡ given.letters = follows_part all_bytes 7 given.letters _ letters_follow in
       let source_is : part all_bytes (7 + length given.letters) (length given.source) ≡ given.source =
       follows_part all_bytes (7 + length given.letters) given.source bytes source_follows in
       λ i. record {
         number = given.number;
-        fixed = fixed-is i;
-        entries = entries-is i;
-        items = items-is i;
-        letters = letters-is i;
+        fixed = fixed_is i;
+        entries = entries_is i;
+        items = items_is i;
+        letters = letters_is i;
         source = source_is i;
       }
 
-  numbers_behind : drop (numbers_taken allNumbers) allNumbers ≡ numbers
+  numbers_behind : drop (numbers_taken all_numbers) all_numbers ≡ numbers
   unfolding numbers_taken numbers_with
   numbers_behind = numbers_follow
 
-  bytes_behind : drop (bytes_taken allNumbers) all_bytes ≡ bytes
+  bytes_behind : drop (bytes_taken all_numbers) all_bytes ≡ bytes
   unfolding bytes_taken numbers_with
   bytes_behind = bytes_follow
 
-  numbers_there : 4 ≤ length allNumbers
+  numbers_there : 4 ≤ length all_numbers
   unfolding numbers_with
   numbers_there = omega arith
 
   bytes_there : 7 ≤ length all_bytes
   bytes_there = omega (arith, length-drop 1 all_bytes, ap length fixed_follow, length-append given.fixed (given.letters ++ (given.source ++ bytes)))
 
-  pub split_first : (turns : ℕ) → given_from (suc turns) allNumbers all_bytes ≡ given ∷ given_from turns numbers bytes
+  pub split_first : (turns : ℕ) → given_from (suc turns) all_numbers all_bytes ≡ given ∷ given_from turns numbers bytes
   unfolding given_from if◌then◌else◌ ◌or◌
   split_first turns =
-      let enough = le-ltb (length allNumbers) 4 numbers_there in
+      let enough = le-ltb (length all_numbers) 4 numbers_there in
       let long = le-ltb (length all_bytes) 7 bytes_there in
       rw (enough, long, first_is, numbers_behind, bytes_behind) refl
 

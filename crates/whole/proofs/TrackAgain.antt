@@ -26,7 +26,7 @@ use Rattle.model.specs.Layout.{track_held}
 use Rattle.model.specs.declared.Event.{Event}
 use Rattle.model.specs.declared.Voice.TheVariants.{Score}
 use Rattle.model.proofs.Outcomes.{then_fine, bind_fine, fine_some}
-use Rattle.inverse.proofs.ReadWrites.{body-writes}
+use Rattle.inverse.proofs.ReadWrites.{body_writes}
 use Rattle.whole.proofs.Bounded.{AllBelow}
 use Rattle.whole.proofs.EntriesAgain.{none_given, entries_given_again}
 use Rattle.entries.specs.Rows.{entries_in}
@@ -94,7 +94,7 @@ module _ (s : List ℕ) (bytes : AllBelow 256 s) (few : length s ≤ 65536) (chu
       let small = body_below s bytes chunk track laid in
       let phrases : track.phrases ≡ has_phrases fixed = laid.phrased in
       let items : List (Item Content) = contents_in track.body track.items in
-      let same : bytes_of handy_phone items ≡ track.body = body-writes Score track.body small track.items laid.reads in
+      let same : bytes_of handy_phone items ≡ track.body = body_writes Score track.body small track.items laid.reads in
       let said = entries_again track laid.seek (seek_part_below s bytes chunk track laid) laid.laid in
       let holds : points_of track.phrases (items_placed items) (length (bytes_of handy_phone items)) track.entries ≡ passed =
       ap (λ (l : List ℕ). points_of track.phrases (items_placed items) (length l) track.entries) same

@@ -26,7 +26,7 @@ use Rattle.inverse.proofs.GivenFit.{given_fit}
 use Rattle.inverse.proofs.WrittenReads.{sequence_reads}
 use Rattle.whole.proofs.Bounded.{AllBelow}
 use Rattle.entries.specs.Rows.{entries_in}
-use Rattle.whole.proofs.EntriesGiven.{given-reads}
+use Rattle.whole.proofs.EntriesGiven.{given_reads}
 use Rattle.whole.proofs.ItemPlaces.{written_points}
 use Rattle.whole.proofs.TrackRow.{seek_part, SeekReads}
 
@@ -98,7 +98,7 @@ module _ (given : Given) (well : GivenWell given) where
         entries = entries;
         said =
             seek_said phrases back.0 (length (bytes_of handy_phone items)) entries
-            (given-reads phrases given.letters given.entries well.small entries sought) hold;
+            (given_reads phrases given.letters given.entries well.small entries sought) hold;
         entries_are = refl;
       }
 

@@ -17,10 +17,10 @@ use Rattle.model.specs.Arrangement.{has_phrases, seek_chunk, track_bytes}
 use Rattle.model.specs.Layout.{track_held}
 use Rattle.model.specs.declared.Voice.TheVariants.{Score}
 use Rattle.model.proofs.Parts.{part_short}
-use Rattle.inverse.proofs.ReadWrites.{body-writes}
+use Rattle.inverse.proofs.ReadWrites.{body_writes}
 use Rattle.whole.proofs.Bounded.{AllBelow, part_below, behind_below, front_below}
 use Rattle.entries.specs.Rows.{entries_in}
-use Rattle.whole.proofs.SeekWrites.{seek-some, seek-writes}
+use Rattle.whole.proofs.SeekWrites.{seek_some, seek_writes}
 use Rattle.whole.proofs.ChunksRead.{chunk_length}
 use Rattle.whole.proofs.TrackRow.{seek_part}
 use Rattle.whole.proofs.TrackWrites.{SeekLaid, TrackLaid}
@@ -44,9 +44,9 @@ seek_again track (some seek) small laid =
     let width : ℕ = point_width track.phrases in
     let bytes = chunk_below MspI seek small in
     let many : 0 < length (entries_in track.entries) =
-    omega (arith, seek-some width seek bytes track.entries laid.0, length-map track.entries (λ entry. entry.what)) in
+    omega (arith, seek_some width seek bytes track.entries laid.0, length-map track.entries (λ entry. entry.what)) in
     seek_chunk_lem width (entries_in track.entries) many
-    ∙ ap (chunk_bytes MspI) (seek-writes width seek bytes track.entries laid.0 (sym laid.1))
+    ∙ ap (chunk_bytes MspI) (seek_writes width seek bytes track.entries laid.0 (sym laid.1))
 
 module _ (s : List ℕ) (bytes : AllBelow 256 s) (chunk : Chunk) (track : Track) (laid : TrackLaid s chunk track) where
   abbrev fixed : List ℕ
@@ -84,10 +84,10 @@ module _ (s : List ℕ) (bytes : AllBelow 256 s) (chunk : Chunk) (track : Track)
   pub track_again : chunk.id / 256 ≡ MTR → track_bytes (track_held s chunk track) ≡ chunk_bytes chunk.id (body_bytes s chunk)
   unfolding track_bytes track_held
   track_again score =
-      let id-is : MTR * 256 + chunk.id % 256 ≡ chunk.id = omega arith in
+      let id_is : MTR * 256 + chunk.id % 256 ≡ chunk.id = omega arith in
       let seek_is : seek_chunk (point_width (has_phrases fixed)) (entries_in track.entries) ≡ seek_part laid.seek =
       rw (← laid.phrased) (seek_again track laid.seek seek_part_below laid.laid) in
       let body_is : bytes_of handy_phone (contents_in track.body track.items) ≡ track.body =
-      body-writes Score track.body body_below track.items laid.reads in
-      ap₂ chunk_bytes id-is
+      body_writes Score track.body body_below track.items laid.reads in
+      ap₂ chunk_bytes id_is
       (ap₂ (λ (seek : List ℕ) (body : List ℕ). fixed ++ seek ++ chunk_bytes Mtsq body) seek_is body_is ∙ sym laid.held)

@@ -14,9 +14,9 @@ use Rattle.model.proofs.Tests.{by_test, first_true}
 use Rattle.whole.proofs.ChunkRow.{Bodied, bodied, RowNamed, RowAllowed}
 
 module _ {A : Type 0} (number : A → ℕ) (body : A → List ℕ) where
-  unfoldable pub tracksRow : List A → List Bodied
-  tracksRow [] = []
-  tracksRow (track ∷ tracks) = bodied (MTR * 256 + number track) (body track) ∷ tracksRow tracks
+  unfoldable pub tracks_row : List A → List Bodied
+  tracks_row [] = []
+  tracks_row (track ∷ tracks) = bodied (MTR * 256 + number track) (body track) ∷ tracks_row tracks
 
 module _ {A : Type 0} (number : A → ℕ) where
   -- each number is a byte and is none of those before it, the latest first
@@ -42,29 +42,29 @@ ids_once (one ∷ before) number = ap₂ (λ (a : Bool) (b : Bool). a or b) (sam
 
 module _ {A : Type 0} (number : A → ℕ) (body : A → List ℕ) where
   tracks_allowed : (tracks : List A) (before : List ℕ) → NumbersOnce number before tracks
-      → RowAllowed (is_allowed list.File) (ids_before before) (tracksRow number body tracks)
-  unfolding tracksRow is_allowed
+      → RowAllowed (is_allowed list.File) (ids_before before) (tracks_row number body tracks)
+  unfolding tracks_row is_allowed
   tracks_allowed [] before once = tt
   tracks_allowed (track ∷ tracks) before once =
       (refl, ids_once before (number track) ∙ once.1, tracks_allowed tracks (number track ∷ before) once.2)
 
-  tracks_named : (tracks : List A) (before : List ℕ) → NumbersOnce number before tracks → RowNamed (tracksRow number body tracks)
-  unfolding tracksRow
+  tracks_named : (tracks : List A) (before : List ℕ) → NumbersOnce number before tracks → RowNamed (tracks_row number body tracks)
+  unfolding tracks_row
   tracks_named [] before once = tt
   tracks_named (track ∷ tracks) before once = (let small = once.0 in omega arith, tracks_named tracks (number track ∷ before) once.2)
 
   module _ (contents : List ℕ) (tracks : List A) (once : NumbersOnce number [] tracks) where
-    pub tracks-row-allowed : RowAllowed (is_allowed list.File) [] (bodied CNTI contents ∷ tracksRow number body tracks)
+    pub tracks_row_allowed : RowAllowed (is_allowed list.File) [] (bodied CNTI contents ∷ tracks_row number body tracks)
     unfolding is_allowed any
-    tracks-row-allowed = (refl, refl, tracks_allowed tracks [] once)
+    tracks_row_allowed = (refl, refl, tracks_allowed tracks [] once)
 
-    pub tracks-row-named : RowNamed (bodied CNTI contents ∷ tracksRow number body tracks)
-    tracks-row-named = (omega arith, tracks_named tracks [] once)
+    pub tracks_row_named : RowNamed (bodied CNTI contents ∷ tracks_row number body tracks)
+    tracks_row_named = (omega arith, tracks_named tracks [] once)
 
   -- one of them is a track
   pub tracks_row_tracked : (tracks : List A) → 0 < length tracks → NumbersOnce number [] tracks
-      → any (λ one. is_track one.id) (tracksRow number body tracks) ≡ true
-  unfolding tracksRow any is_track
+      → any (λ one. is_track one.id) (tracks_row number body tracks) ≡ true
+  unfolding tracks_row any is_track
   tracks_row_tracked [] some once = absurd (omega arith)
   tracks_row_tracked (track ∷ tracks) some once =
       let small = once.0 in

@@ -116,9 +116,9 @@ module _ (s : List ℕ) (chunk : Chunk) (number : ℕ) (fixed : List ℕ) (seek 
   pub voice_read : voice_of s chunk ≡ fine (some Score)
   unfolding voice_of score_voice if◌then◌else◌ ◌or◌
   voice_read =
-      let is-score : (chunk.id / 256 ≡? MTR) ≡ true = eq-eqb (chunk.id / 256) MTR (omega arith) in
-      let some-body : (chunk.size ≡? 0) ≡ false = ne_eqb chunk.size 0 (λ z. omega (arith, long)) in
-      rw (is-score, some-body, first_fixed)
+      let is_score : (chunk.id / 256 ≡? MTR) ≡ true = eq-eqb (chunk.id / 256) MTR (omega arith) in
+      let some_body : (chunk.size ≡? 0) ≡ false = ne_eqb chunk.size 0 (λ z. omega (arith, long)) in
+      rw (is_score, some_body, first_fixed)
 
   pub fixed_read : fixed_holds Score s chunk ≡ passed
   unfolding fixed_holds fixed_fits if◌then◌else◌
@@ -143,15 +143,15 @@ module _ (s : List ℕ) (chunk : Chunk) (number : ℕ) (fixed : List ℕ) (seek 
 
   module _ (items : List (Placed (Item Event))) (entries : List (Placed Entry)) (reads : body_of Score body ≡ fine items)
       (said : SeekReads (has_phrases fixed) items (length body) seek entries) where
-    pub track-reads : track_of s Score chunk ≡ fine (track_from chunk.place fixed seek body items entries)
+    pub track_reads : track_of s Score chunk ≡ fine (track_from chunk.place fixed seek body items entries)
     unfolding track_from has_phrases
-    track-reads =
+    track_reads =
         let at : ℕ = body_place chunk + 6 in
         track_passes s chunk (chunks_from at row) (sequence_from at seek body) (has_phrases fixed) (fixed ! 2) (fixed ! 3) body items entries
         fixed_read parts_listed (sequence_found at seek body) (setup_missing at seek body) (sequence_held s at seek body parts_held) reads
         (ap (λ (n : ℕ). n ≡? 1) (fixed_at 1 (omega arith))) (fixed_at 2 (omega arith)) (fixed_at 3 (omega arith))
         (entries_said_lem s at seek body (has_phrases fixed) items (length body) entries parts_held said)
 
-    pub top-reads : top_of s chunk ≡ fine (readable chunk (track_from chunk.place fixed seek body items entries))
+    pub top_reads : top_of s chunk ≡ fine (readable chunk (track_from chunk.place fixed seek body items entries))
     unfolding top_of opened ◌>>=◌
-    top-reads = rw (voice_read, track-reads)
+    top_reads = rw (voice_read, track_reads)

@@ -22,9 +22,9 @@ use Rattle.model.proofs.Tests.{both_true}
 use Rattle.entries.specs.Rows.{entries_in}
 use Rattle.whole.proofs.Following.{follows_part, part_follows}
 use Rattle.whole.proofs.ChunkRow.{Bodied, bodied, row_bytes, chunk_from, chunks_from, RowFits, RowHeld}
-use Rattle.whole.proofs.TrackNumbers.{tracksRow}
+use Rattle.whole.proofs.TrackNumbers.{tracks_row}
 use Rattle.whole.proofs.TrackRow.{seek_part, track_row, track_from}
-use Rattle.whole.proofs.TrackReads.{top-reads}
+use Rattle.whole.proofs.TrackReads.{top_reads}
 use Rattle.whole.proofs.TrackGiven.{seek_body, seek_part_lem, sequence_of, seek_of_track, TrackReady}
 use Rattle.whole.proofs.TracksGiven.{AllReady, number_of}
 
@@ -34,10 +34,10 @@ body_of_track track =
     track.fixed ++ seek_chunk (point_width (has_phrases track.fixed)) track.entries ++ chunk_bytes Mtsq (sequence_of track)
 
 abbrev pub row_of_tracks : List ScoreTrack → List Bodied
-row_of_tracks tracks = tracksRow number_of body_of_track tracks
+row_of_tracks tracks = tracks_row number_of body_of_track tracks
 
 pub row_of_tracks_lem : (tracks : List ScoreTrack) → row_bytes (row_of_tracks tracks) ≡ tracks_bytes tracks
-unfolding row_bytes tracksRow tracks_bytes track_bytes
+unfolding row_bytes tracks_row tracks_bytes track_bytes
 row_of_tracks_lem [] = refl
 row_of_tracks_lem (track ∷ tracks) = ap (λ (l : List ℕ). chunk_bytes (MTR * 256 + track.number) (body_of_track track) ++ l) (row_of_tracks_lem tracks)
 
@@ -73,9 +73,9 @@ module _ (s : List ℕ) (at : ℕ) (track : ScoreTrack) (ready : TrackReady trac
   found_laid = parts_laid_lem at track.fixed track.entries (sequence_of track) ready.items ready.entries ready.entries_are
 
   module _ (held : body_bytes s chunk ≡ body_of_track track) (small : length (body_of_track track) < 4294967296) where
-    top-found : top_of s chunk ≡ fine (readable chunk found)
-    top-found =
-        top-reads s chunk track.number track.fixed (seek_of_track track) (sequence_of track) refl ready.byte (held ∙ by_parts) (ap length by_parts)
+    top_found : top_of s chunk ≡ fine (readable chunk found)
+    top_found =
+        top_reads s chunk track.number track.fixed (seek_of_track track) (sequence_of track) refl ready.byte (held ∙ by_parts) (ap length by_parts)
         small ready.six ready.format ready.fits ready.items ready.entries ready.reads ready.said
 
     fixed_held : part s (body_place chunk) fixed_size ≡ track.fixed
@@ -88,9 +88,9 @@ module _ (s : List ℕ) (at : ℕ) (track : ScoreTrack) (ready : TrackReady trac
         ∙ ap (λ (l : List ℕ). l ++ behind) (append_assoc track.fixed seek (chunk_bytes Mtsq (sequence_of track)))
         ∙ append_assoc track.fixed _ behind)
 
-    track-back : track_held s chunk found ≡ track
+    track_back : track_held s chunk found ≡ track
     unfolding track_held track_from
-    track-back =
+    track_back =
         let byte = ready.byte in
         let number : (MTR * 256 + track.number) % 256 ≡ track.number = omega arith in
         rw (number, fixed_held, ready.entries_are, ready.items_are) refl
@@ -98,13 +98,13 @@ module _ (s : List ℕ) (at : ℕ) (track : ScoreTrack) (ready : TrackReady trac
 -- ALL OF THEM
 pub tracks_read : (s : List ℕ) (tracks : List ScoreTrack) (at : ℕ) → AllReady tracks → RowHeld s at (row_of_tracks tracks) → RowFits (row_of_tracks tracks)
     → (tops : List Top) × (each (top_of s) (chunks_from at (row_of_tracks tracks)) ≡ fine tops) × (tracks_held s tops ≡ tracks) × (tracks_laid tops ≡ true)
-unfolding tracksRow chunks_from each ◌>>=◌ tracks_held tracks_laid
+unfolding tracks_row chunks_from each ◌>>=◌ tracks_held tracks_laid
 tracks_read s [] at ready held fits = ([], refl, refl, refl)
 tracks_read s (track ∷ tracks) at ready held fits =
-    let first = top-found s at track ready.0 held.0 fits.1 in
+    let first = top_found s at track ready.0 held.0 fits.1 in
     let more = tracks_read s tracks (at + 8 + length (body_of_track track)) ready.1 held.1 fits.2 in (
       readable (chunk s at track ready.0) (found s at track ready.0) ∷ more.0,
       rw (first, more.1),
-      ap₂ (λ (t : ScoreTrack) (ts : List ScoreTrack). t ∷ ts) (track-back s at track ready.0 held.0 fits.1) more.2,
+      ap₂ (λ (t : ScoreTrack) (ts : List ScoreTrack). t ∷ ts) (track_back s at track ready.0 held.0 fits.1) more.2,
       both_true _ _ (id_laid s at track ready.0) (both_true _ _ (found_laid s at track ready.0) more.3),
     )

@@ -105,9 +105,9 @@ module _ (voice : Voice) (source numbers l : List ℕ) (answer : Wrote) (found :
       exact : size ≡ length bytes
       exact = let e = limited_exact (length bytes) (omega (arith, these.2)) in these.2 ∙ e
 
-      is-fine : outcome ≡ fine bytes
+      is_fine_lem : outcome ≡ fine bytes
       unfolding within_room if◌then◌else◌ ◌or◌
-      is-fine =
+      is_fine_lem =
           let small : length bytes ≤ 65536 = omega (arith, exact) in
           let fits : length bytes ≤ length l = omega (arith, exact) in
           within ∙ simp le-ltb
@@ -126,14 +126,14 @@ module _ (voice : Voice) (source numbers l : List ℕ) (answer : Wrote) (found :
       pub bytes-answer : (next : ℕ) → next ≡ 0 + length (list_bytes (items_given voice source numbers))
           → Bytes next ≡ write_answer (write_items_of voice source numbers (length l))
       unfolding write_answer
-      bytes-answer next e = rw is-fine (ap Bytes (e ∙ rw listed (omega arith)))
+      bytes-answer next e = rw is_fine_lem (ap Bytes (e ∙ rw listed (omega arith)))
 
       pub bytes-written : (m : List ℕ) → m ≡ sets l 0 (list_bytes (items_given voice source numbers))
           → m ≡ write_room l (write_items_of voice source numbers (length l))
       unfolding write_room memory_after
       bytes-written m e =
           let fits : length bytes ≤ length l = omega (arith, exact) in
-          rw is-fine (e ∙ ap (sets l 0) listed ∙ front_stored l bytes fits)
+          rw is_fine_lem (e ∙ ap (sets l 0) listed ∙ front_stored l bytes fits)
 
 pub ruleset answered = (
   refused_answer,

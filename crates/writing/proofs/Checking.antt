@@ -102,12 +102,12 @@ module _ (voice : Voice) (source numbers : List ℕ) where
       record { few = omega arith; same = ap (onto 0) start ∙ onto_none (items_from voice source total 0 numbers) }
 
   module _ (index taken : ℕ) (c : CheckedTo voice source numbers index taken) where
-    pub checked-limited : CheckedTo voice source numbers index (limited taken)
-    checked-limited = record { few = c.few; same = onto_limited taken (left index) ∙ c.same }
+    pub checked_limited : CheckedTo voice source numbers index (limited taken)
+    checked_limited = record { few = c.few; same = onto_limited taken (left index) ∙ c.same }
 
-    checked-all : (total ≡ 0 → ⊥) → total ≤ index → Bytes (limited taken) ≡ size_answer (items_given voice source numbers)
+    checked_all : (total ≡ 0 → ⊥) → total ≤ index → Bytes (limited taken) ≡ size_answer (items_given voice source numbers)
     unfolding onto bytes_of
-    checked-all some past =
+    checked_all some past =
         ap Bytes (ap limited (sym (add-zero taken))) ∙ ap (onto taken) (sym (listed_over voice source numbers total index past)) ∙ c.same
         ∙ ap size_answer (sym (some_given some))
 
@@ -115,8 +115,8 @@ module _ (voice : Voice) (source numbers : List ℕ) where
       abbrev one : Checked (Item Content)
       one = item_given voice source (numbers ! (2 * index)) (numbers ! (2 * index + 1))
 
-      some-items : total ≡ 0 → ⊥
-      some-items e = omega arith
+      some_items : total ≡ 0 → ⊥
+      some_items e = omega arith
 
       turned : (o : Checked (Item Content)) → one ≡ o → onto taken (ahead index o (from voice source numbers total index (index + 1))) ≡ size_answer (items_from voice source total 0 numbers)
       turned o e =
@@ -125,9 +125,9 @@ module _ (voice : Voice) (source numbers : List ℕ) where
           ∙ c.same
 
       module _ (n : ℕ) (is : n ≡ length (given_bytes (item_given voice source (numbers ! (2 * index)) (numbers ! (2 * index + 1))))) where
-        pub checked-next : (n ≡ 0 → ⊥) → CheckedTo voice source numbers (index + 1) (taken + n)
+        pub checked_next : (n ≡ 0 → ⊥) → CheckedTo voice source numbers (index + 1) (taken + n)
         unfolding given_bytes
-        checked-next some = go one refl
+        checked_next some = go one refl
           where
             go : (o : Checked (Item Content)) → one ≡ o → CheckedTo voice source numbers (index + 1) (taken + n)
             go (refused number place) e = absurd (some (is ∙ ap (λ (o : Checked (Item Content)). length (given_bytes o)) e))
@@ -138,10 +138,10 @@ module _ (voice : Voice) (source numbers : List ℕ) where
                   same = ap (λ (k : ℕ). onto (taken + k) (left (index + 1))) sized ∙ sym (onto_item index taken item _) ∙ turned (fine item) e;
                 }
 
-        pub checked-faulty : n ≡ 0 → (fault : ℕ) → fault ≡ fault_in (item_given voice source (numbers ! (2 * index)) (numbers ! (2 * index + 1)))
+        pub checked_faulty : n ≡ 0 → (fault : ℕ) → fault ≡ fault_in (item_given voice source (numbers ! (2 * index)) (numbers ! (2 * index + 1)))
             → Refused fault index ≡ size_answer (items_given voice source numbers)
         unfolding given_bytes fault_in
-        checked-faulty none fault f = go one refl
+        checked_faulty none fault f = go one refl
           where
             go : (o : Checked (Item Content)) → one ≡ o → Refused fault index ≡ size_answer (items_given voice source numbers)
             go (fine item) e =
@@ -150,13 +150,13 @@ module _ (voice : Voice) (source numbers : List ℕ) where
                 absurd (omega arith)
             go (refused number place) e =
                 ap (λ (k : ℕ). Refused k index) (f ∙ ap fault_in e) ∙ sym (onto_faulty index taken number place _) ∙ turned (refused number place) e
-                ∙ ap size_answer (sym (some_given some-items))
+                ∙ ap size_answer (sym (some_given some_items))
 
         -- where all items are given, each has a length
-        pub checked-on : is_fine (items_given voice source numbers) ≡ true → n ≡ 0 → ⊥
+        pub checked_on : is_fine (items_given voice source numbers) ≡ true → n ≡ 0 → ⊥
         unfolding is_bytes
-        checked-on all none =
-            false≢true (ap is_bytes (checked-faulty none _ refl) ∙ fine_bytes (items_given voice source numbers) all)
+        checked_on all none =
+            false≢true (ap is_bytes (checked_faulty none _ refl) ∙ fine_bytes (items_given voice source numbers) all)
 
 -- THE LOOP
 
@@ -167,7 +167,7 @@ pub record Checking (voice : Voice) (source numbers : List ℕ) (size i : ℕ) :
 pub check_starts : (voice : Voice) (source numbers : List ℕ) (index taken size : ℕ) → CheckedTo voice source numbers index taken → size ≡ limited taken
     → Checking voice source numbers size index
 check_starts voice source numbers index taken size c e =
-    rw e (record { small = limited_most taken; to = checked-limited voice source numbers index taken c })
+    rw e (record { small = limited_most taken; to = checked_limited voice source numbers index taken c })
 
 module _ (voice : Voice) (source numbers : List ℕ) (count : ℕ) (counted : count ≡ length numbers / 2) where
   pub check_none : count ≡ 0 → Refused 11 0 ≡ size_answer (items_given voice source numbers)
@@ -177,23 +177,23 @@ module _ (voice : Voice) (source numbers : List ℕ) (count : ℕ) (counted : co
   module _ (some : count ≡ 0 → ⊥) (size i : ℕ) (r : Checking voice source numbers size i) where
     pub check_done : count ≤ i → Bytes size ≡ size_answer (items_given voice source numbers)
     check_done h =
-        ap Bytes (sym (limited_small size r.small)) ∙ checked-all voice source numbers i size r.to (λ e. some (counted ∙ e)) (omega arith)
+        ap Bytes (sym (limited_small size r.small)) ∙ checked_all voice source numbers i size r.to (λ e. some (counted ∙ e)) (omega arith)
 
     module _ (here : i < count) (fault : ℕ) (is : fault ≡ fault_in (item_given voice source (numbers ! (2 * i)) (numbers ! (2 * i + 1)))) where
-      pub check-faulty : (fault ≡ 0 → ⊥) → Refused fault i ≡ size_answer (items_given voice source numbers)
-      check-faulty some-fault =
-          checked-faulty voice source numbers i size r.to (omega arith) _ refl (sym (fault_none _ fault is some-fault)) fault is
+      pub check_faulty : (fault ≡ 0 → ⊥) → Refused fault i ≡ size_answer (items_given voice source numbers)
+      check_faulty some-fault =
+          checked_faulty voice source numbers i size r.to (omega arith) _ refl (sym (fault_none _ fault is some-fault)) fault is
 
-      pub check-goes-on : (more next : ℕ) → fault ≡ 0 → more ≡ given_size (numbers ! (2 * i)) (numbers ! (2 * i + 1)) → next ≡ limited (size + more)
+      pub check_goes_on : (more next : ℕ) → fault ≡ 0 → more ≡ given_size (numbers ! (2 * i)) (numbers ! (2 * i + 1)) → next ≡ limited (size + more)
           → Checking voice source numbers next (i + 1)
-      check-goes-on more next none sized e =
+      check_goes_on more next none sized e =
           let there = fault_free _ (item_numbered voice source _ _) (sym none ∙ is) in
           let long : more ≡ length (given_bytes (item_given voice source (numbers ! (2 * i)) (numbers ! (2 * i + 1)))) = sized ∙ sym (given_length voice source _ _ there) in
           let bytes : more ≡ 0 → ⊥ = λ z. given_some _ there (sym long ∙ z) in
           rw e
           (record {
             small = limited_most (size + more);
-            to = checked-limited voice source numbers (i + 1) (size + more) (checked-next voice source numbers i size r.to (omega arith) more long bytes);
+            to = checked_limited voice source numbers (i + 1) (size + more) (checked_next voice source numbers i size r.to (omega arith) more long bytes);
           })
 
-pub ruleset checks = (check_starts, check_none, check_done, check-faulty, check-goes-on)
+pub ruleset checks = (check_starts, check_none, check_done, check_faulty, check_goes_on)

@@ -68,29 +68,29 @@ module _ (voice : Voice) (s : List ℕ) (event : Event) where
 
   -- the room, the place after and the memory, from the bytes that the event is known to be
   module _ (l m : List ℕ) (at r : ℕ) (bytes : List ℕ) where
-    pub event-room : content_bytes (content_of s event) ≡ bytes → at + length (content_bytes (content_of s event)) ≤ length l → at + length bytes ≤ length l
-    event-room p h = rw p at h
+    pub event_room : content_bytes (content_of s event) ≡ bytes → at + length (content_bytes (content_of s event)) ≤ length l → at + length bytes ≤ length l
+    event_room p h = rw p at h
 
-    pub event-next : content_bytes (content_of s event) ≡ bytes → r ≡ at + length bytes → r ≡ at + length (content_bytes (content_of s event))
-    event-next p h = rw p h
+    pub event_next : content_bytes (content_of s event) ≡ bytes → r ≡ at + length bytes → r ≡ at + length (content_bytes (content_of s event))
+    event_next p h = rw p h
 
-    pub event-wrote : content_bytes (content_of s event) ≡ bytes → m ≡ sets l at bytes → m ≡ sets l at (content_bytes (content_of s event))
-    event-wrote p h = rw p h
+    pub event_wrote : content_bytes (content_of s event) ≡ bytes → m ≡ sets l at bytes → m ≡ sets l at (content_bytes (content_of s event))
+    event_wrote p h = rw p h
 
   module _ (l : List ℕ) (at : ℕ) where
-    pub nop-room : event ≡ Nop → at + length (content_bytes (content_of s event)) ≤ length l → at < length l
-    nop-room p h = omega (arith, rw (nop_bytes p) at h)
+    pub nop_room : event ≡ Nop → at + length (content_bytes (content_of s event)) ≤ length l → at < length l
+    nop_room p h = omega (arith, rw (nop_bytes p) at h)
 
-    pub nop-second : (one : ℕ) → event ≡ Nop → at + length (content_bytes (content_of s event)) ≤ length l → at + 1 < length (set l at one)
-    nop-second one p h = simp length-set (omega (arith, rw (nop_bytes p) at h))
+    pub nop_second : (one : ℕ) → event ≡ Nop → at + length (content_bytes (content_of s event)) ≤ length l → at + 1 < length (set l at one)
+    nop_second one p h = simp length-set (omega (arith, rw (nop_bytes p) at h))
 
     pub nop_next : event ≡ Nop → at + 2 ≡ at + length (content_bytes (content_of s event))
     nop_next p = rw (nop_bytes p)
 
-    pub nop-wrote : event ≡ Nop → set (set l at 0xFF) (at + 1) 0x00 ≡ sets l at (content_bytes (content_of s event))
-    nop-wrote p = rw (nop_bytes p) (simp towards_suc)
+    pub nop_wrote : event ≡ Nop → set (set l at 0xFF) (at + 1) 0x00 ≡ sets l at (content_bytes (content_of s event))
+    nop_wrote p = rw (nop_bytes p) (simp towards_suc)
 
-pub ruleset contents = (note_fit, wave_fit, control_fit, exclusive_inside, note_bytes, wave_bytes, control_bytes_lem, exclusive_bytes_lem, event-room, event-next, event-wrote, nop-room, nop-second, nop_next, nop-wrote)
+pub ruleset contents = (note_fit, wave_fit, control_fit, exclusive_inside, note_bytes, wave_bytes, control_bytes_lem, exclusive_bytes_lem, event_room, event_next, event_wrote, nop_room, nop_second, nop_next, nop_wrote)
 
 pub event_length_lem : (voice : Voice) (s : List ℕ) (event : Event) → event_fits voice s event ≡ true → length (content_bytes (content_of s event)) ≡ event_size event
 unfolding event_fits content_of content_bytes event_size if◌then◌else◌

@@ -77,9 +77,9 @@ module _ (s : List ℕ) (bytes : (k : ℕ) → s ! k < 256) where
 
   -- a note or a wave
   module _ (at : ℕ) (here : at < length s) where
-    note-stands : is_note (s ! at % 16) ≡ true → (d : ReadDuration) → GateStands s (at + 1) d → EventStands Score s at (gated Score (s ! at) d)
+    note_stands : is_note (s ! at % 16) ≡ true → (d : ReadDuration) → GateStands s (at + 1) d → EventStands Score s at (gated Score (s ! at) d)
     unfolding gated sound content_of content_fits content_bytes note_fits is_gate ◌and◌
-    note-stands n (duration.Is gate next) st =
+    note_stands n (duration.Is gate next) st =
         let b = bytes at in
         let g = st.0 in
         let t = st.1 in
@@ -88,32 +88,32 @@ module _ (s : List ℕ) (bytes : (k : ℕ) → s ! k < 256) where
         let k : s ! at % 64 ≤ 63 = omega arith in
         let l : s ! at % 64 % 16 ≡ s ! at % 16 = omega arith in
         (simp (le-leb, l, n), (here, omega arith, st.2), omega arith)
-    note-stands n (duration.Refused number place) st = tt
+    note_stands n (duration.Refused number place) st = tt
 
-    wave-stands : is_wave (s ! at % 64) ≡ true → (d : ReadDuration) → GateStands s (at + 1) d → EventStands Pcm s at (gated Pcm (s ! at) d)
+    wave_stands : is_wave (s ! at % 64) ≡ true → (d : ReadDuration) → GateStands s (at + 1) d → EventStands Pcm s at (gated Pcm (s ! at) d)
     unfolding gated sound content_of content_fits content_bytes wave_fits is_gate ◌and◌
-    wave-stands w (duration.Is gate next) st =
+    wave_stands w (duration.Is gate next) st =
         let b = bytes at in
         let g = st.0 in
         let t = st.1 in
         let m = st.3 in
         let c : s ! at / 64 ≤ 3 = omega arith in
         (simp (le-leb, w), (here, omega arith, st.2), omega arith)
-    wave-stands w (duration.Refused number place) st = tt
+    wave_stands w (duration.Refused number place) st = tt
 
-    sound-stands : (voice : Voice) → EventStands voice s at (sound_at voice s at)
+    sound_stands : (voice : Voice) → EventStands voice s at (sound_at voice s at)
     unfolding sound_at is_sound
-    sound-stands Score =
-        if_all (EventStands Score s at) (is_note (s ! at % 16)) _ _ (λ n. note-stands n (gate_at s (at + 1)) (gate_stands (at + 1))) (λ n. tt)
-    sound-stands Pcm =
-        if_all (EventStands Pcm s at) (is_wave (s ! at % 64)) _ _ (λ w. wave-stands w (gate_at s (at + 1)) (gate_stands (at + 1))) (λ w. tt)
+    sound_stands Score =
+        if_all (EventStands Score s at) (is_note (s ! at % 16)) _ _ (λ n. note_stands n (gate_at s (at + 1)) (gate_stands (at + 1))) (λ n. tt)
+    sound_stands Pcm =
+        if_all (EventStands Pcm s at) (is_wave (s ! at % 64)) _ _ (λ w. wave_stands w (gate_at s (at + 1)) (gate_stands (at + 1))) (λ w. tt)
 
   -- a control, whose first byte is 00
   module _ (voice : Voice) (at : ℕ) (here : at < length s) (zero-here : s ! at ≡ 0x00) (next_here : at + 1 < length s) where
-    long-control : (kind : ℕ) → kind ≡ long_kind (s ! (at + 1) % 16) → s ! (at + 1) / 16 % 4 ≡ 3 → (kind ≡ 0 → ⊥) → has_kind voice kind ≡ true
+    long_control : (kind : ℕ) → kind ≡ long_kind (s ! (at + 1) % 16) → s ! (at + 1) / 16 % 4 ≡ 3 → (kind ≡ 0 → ⊥) → has_kind voice kind ≡ true
         → at + 2 < length s → is_value kind (s ! (at + 2)) ≡ true → EventStands voice s at (event.Is (Control kind (s ! (at + 1) / 64) (s ! (at + 2))) (at + 3))
     unfolding content_of content_fits content_bytes control_fits value_fits if◌then◌else◌ ◌and◌
-    long-control kind is form some has there ok =
+    long_control kind is form some has there ok =
         let b = bytes (at + 1) in
         let v = bytes (at + 2) in
         let low : s ! (at + 1) % 16 < 16 = omega arith in
@@ -131,11 +131,11 @@ module _ (s : List ℕ) (bytes : (k : ℕ) → s ! k < 256) where
           rw (control_long kind (s ! (at + 1) / 64) (s ! (at + 2)) to),
         )
 
-    short-control : (kind : ℕ) → kind ≡ 13 - s ! (at + 1) / 16 % 4 → (s ! (at + 1) / 16 % 4 ≡ 3 → ⊥) → has_kind voice kind ≡ true
+    short_control : (kind : ℕ) → kind ≡ 13 - s ! (at + 1) / 16 % 4 → (s ! (at + 1) / 16 % 4 ≡ 3 → ⊥) → has_kind voice kind ≡ true
         → (s ! (at + 1) % 16 ≡ 0 → ⊥) → (s ! (at + 1) % 16 ≡ 15 → ⊥)
         → EventStands voice s at (event.Is (Control kind (s ! (at + 1) / 64) (s ! (at + 1) % 16)) (at + 2))
     unfolding content_of content_fits content_bytes control_fits value_fits if◌then◌else◌ ◌and◌
-    short-control kind is form has some less =
+    short_control kind is form has some less =
         let b = bytes (at + 1) in
         let from : 3 ≤ kind = omega arith in
         let to : 11 ≤ kind = omega arith in
@@ -149,9 +149,9 @@ module _ (s : List ℕ) (bytes : (k : ℕ) → s ! k < 256) where
           rw (control_short kind (s ! (at + 1) / 64) (s ! (at + 1) % 16) to),
         )
 
-    formed-stands : EventStands voice s at (formed voice s at (s ! (at + 1)))
+    formed_stands : EventStands voice s at (formed voice s at (s ! (at + 1)))
     unfolding formed long_at short_at
-    formed-stands =
+    formed_stands =
         let byte = s ! (at + 1) in
         let P = EventStands voice s at in
         if_all P (byte / 16 % 4 ≡? 3) _ _
@@ -160,51 +160,51 @@ module _ (s : List ℕ) (bytes : (k : ℕ) → s ! k < 256) where
         (λ b. if_all P (not (has_kind voice kind)) _ _ (λ c. tt)
         (λ c. if_all P (length s ≤? at + 2) _ _ (λ d. tt)
         (λ d. if_all P (is_value kind (s ! (at + 2))) _ _
-        (λ e. long-control kind refl (eqb-true (byte / 16 % 4) 3 a) (eqb-false kind 0 b) (not-false (has_kind voice kind) c) (leb-false (length s) (at + 2) d) e)
+        (λ e. long_control kind refl (eqb-true (byte / 16 % 4) 3 a) (eqb-false kind 0 b) (not-false (has_kind voice kind) c) (leb-false (length s) (at + 2) d) e)
         (λ e. tt)))))
         (λ a. let kind = short_kind (byte / 16 % 4) in
         if_all P (not (has_kind voice kind)) _ _ (λ b. tt)
         (λ b. if_all P (byte % 16 ≡? 0) _ _ (λ c. tt)
         (λ c. if_all P (byte % 16 ≡? 15) _ _ (λ d. tt)
-        (λ d. short-control kind refl (eqb-false (byte / 16 % 4) 3 a) (not-false (has_kind voice kind) b) (eqb-false (byte % 16) 0 c) (eqb-false (byte % 16) 15 d)))))
+        (λ d. short_control kind refl (eqb-false (byte / 16 % 4) 3 a) (not-false (has_kind voice kind) b) (eqb-false (byte % 16) 0 c) (eqb-false (byte % 16) 15 d)))))
 
   control_stands : (voice : Voice) (at : ℕ) → at < length s → s ! at ≡ 0x00 → EventStands voice s at (control_at voice s at)
   unfolding control_at
   control_stands voice at h z =
-      if_all (EventStands voice s at) (length s ≤? at + 1) _ _ (λ a. tt) (λ a. formed-stands voice at h z (leb-false (length s) (at + 1) a))
+      if_all (EventStands voice s at) (length s ≤? at + 1) _ _ (λ a. tt) (λ a. formed_stands voice at h z (leb-false (length s) (at + 1) a))
 
   -- a NOP or an exclusive, whose first byte is FF
   module _ (voice : Voice) (at : ℕ) (here : at < length s) (first : s ! at ≡ 0xFF) (next_here : at + 1 < length s) where
-    nop-stands : s ! (at + 1) ≡ 0x00 → EventStands voice s at (event.Is Nop (at + 2))
+    nop_stands : s ! (at + 1) ≡ 0x00 → EventStands voice s at (event.Is Nop (at + 2))
     unfolding content_of content_fits content_bytes
-    nop-stands z = (refl, (here, first, (next_here, z, tt)), refl)
+    nop_stands z = (refl, (here, first, (next_here, z, tt)), refl)
 
-    closed-stands : (size : ℕ) → s ! (at + 1) ≡ 0xF0 → size ≡ s ! (at + 2) → 3 ≤ size → at + 2 + size < length s → s ! (at + 2 + size) ≡ 0xF7
+    closed_stands : (size : ℕ) → s ! (at + 1) ≡ 0xF0 → size ≡ s ! (at + 2) → 3 ≤ size → at + 2 + size < length s → s ! (at + 2 + size) ≡ 0xF7
         → EventStands voice s at (event.Is (Exclusive at size) (at + 2 + size + 1))
     unfolding content_of content_bytes
-    closed-stands size second is many there last =
+    closed_stands size second is many there last =
         let v = bytes (at + 2) in
         let inside : at + 3 + size ≤ length s = omega arith in
         let sized = part_length s (at + 3) size inside in
         let two : at + 1 + 1 ≡ at + 2 = omega arith in
         let three : at + 2 + 1 ≡ at + 3 = omega arith in
-        let size-here : at + 2 < length s = omega arith in
+        let size_here : at + 2 < length s = omega arith in
         let body = part_stands s (at + 3) size inside in (
           exclusive_fits_lem voice s at size many (omega arith) inside last,
-          rw sized (here, first, (next_here, second, rw two (size-here, sym is, rw three body))),
+          rw sized (here, first, (next_here, second, rw two (size_here, sym is, rw three body))),
           omega arith,
         )
 
-    exclusive-stands : s ! (at + 1) ≡ 0xF0 → EventStands voice s at (exclusive_at s at)
+    exclusive_stands : s ! (at + 1) ≡ 0xF0 → EventStands voice s at (exclusive_at s at)
     unfolding exclusive_at closed_at
-    exclusive-stands second =
+    exclusive_stands second =
         let size = s ! (at + 2) in
         let P = EventStands voice s at in
         if_all P (length s ≤? at + 2) _ _ (λ a. tt)
         (λ a. if_all P (size <? 3) _ _ (λ b. tt)
         (λ b. if_all P (length s ≤? at + 2 + size) _ _ (λ c. tt)
         (λ c. if_all P (s ! (at + 2 + size) ≡? 0xF7) _ _
-        (λ d. closed-stands size second refl (ltb-false size 3 b) (leb-false (length s) (at + 2 + size) c) (eqb-true (s ! (at + 2 + size)) 0xF7 d))
+        (λ d. closed_stands size second refl (ltb-false size 3 b) (leb-false (length s) (at + 2 + size) c) (eqb-true (s ! (at + 2 + size)) 0xF7 d))
         (λ d. tt))))
 
   system_stands : (voice : Voice) (at : ℕ) → at < length s → s ! at ≡ 0xFF → EventStands voice s at (system_at s at)
@@ -213,8 +213,8 @@ module _ (s : List ℕ) (bytes : (k : ℕ) → s ! k < 256) where
       let P = EventStands voice s at in
       if_all P (length s ≤? at + 1) _ _ (λ a. tt)
       (λ a. let k = leb-false (length s) (at + 1) a in
-      if_all P (s ! (at + 1) ≡? 0x00) _ _ (λ b. nop-stands voice at h f k (eqb-true (s ! (at + 1)) 0x00 b))
-      (λ b. if_all P (s ! (at + 1) ≡? 0xF0) _ _ (λ c. exclusive-stands voice at h f k (eqb-true (s ! (at + 1)) 0xF0 c)) (λ c. tt)))
+      if_all P (s ! (at + 1) ≡? 0x00) _ _ (λ b. nop_stands voice at h f k (eqb-true (s ! (at + 1)) 0x00 b))
+      (λ b. if_all P (s ! (at + 1) ≡? 0xF0) _ _ (λ c. exclusive_stands voice at h f k (eqb-true (s ! (at + 1)) 0xF0 c)) (λ c. tt)))
 
   pub event_stands : (voice : Voice) (at : ℕ) → EventStands voice s at (event_at voice s at)
   unfolding event_at
@@ -223,4 +223,4 @@ module _ (s : List ℕ) (bytes : (k : ℕ) → s ! k < 256) where
       if_all P (length s ≤? at) _ _ (λ a. tt)
       (λ a. let h = leb-false (length s) at a in
       if_all P (s ! at ≡? 0x00) _ _ (λ b. control_stands voice at h (eqb-true (s ! at) 0x00 b))
-      (λ b. if_all P (s ! at ≡? 0xFF) _ _ (λ c. system_stands voice at h (eqb-true (s ! at) 0xFF c)) (λ c. sound-stands at h voice)))
+      (λ b. if_all P (s ! at ≡? 0xFF) _ _ (λ c. system_stands voice at h (eqb-true (s ! at) 0xFF c)) (λ c. sound_stands at h voice)))

@@ -56,14 +56,14 @@ module _ (l : List ℕ) (at kind channel value : ℕ) where
   short_room h r = omega (arith, rw control_short at r)
 
   module _ (one two : ℕ) where
-    pub long-second : kind < 11 → at + length (control_bytes kind channel value) ≤ length l → at + 1 < length (set l at one)
-    long-second h r = simp length-set (omega (arith, rw control_long at r))
+    pub long_second : kind < 11 → at + length (control_bytes kind channel value) ≤ length l → at + 1 < length (set l at one)
+    long_second h r = simp length-set (omega (arith, rw control_long at r))
 
     pub short_second : 11 ≤ kind → at + length (control_bytes kind channel value) ≤ length l → at + 1 < length (set l at one)
     short_second h r = simp length-set (omega (arith, rw control_short at r))
 
-    pub long-third : kind < 11 → at + length (control_bytes kind channel value) ≤ length l → at + 2 < length (set (set l at one) (at + 1) two)
-    long-third h r = simp length-set (omega (arith, rw control_long at r))
+    pub long_third : kind < 11 → at + length (control_bytes kind channel value) ≤ length l → at + 2 < length (set (set l at one) (at + 1) two)
+    long_third h r = simp length-set (omega (arith, rw control_long at r))
 
   pub long_next : kind < 11 → at + 3 ≡ at + length (control_bytes kind channel value)
   long_next h = rw control_long
@@ -81,7 +81,7 @@ module _ (l : List ℕ) (at kind channel value : ℕ) where
 pub short_sum : (kind channel value : ℕ) → ControlFit kind channel value → 11 ≤ kind → Fits w8 (channel * 64 + (13 - kind) * 16 + value)
 short_sum kind channel value fit h = let s = fit.short h in omega arith
 
-pub ruleset controls = (long_room, short_room, long-second, short_second, long-third, long_next, short_next, long_wrote, short_wrote, short_sum)
+pub ruleset controls = (long_room, short_room, long_second, short_second, long_third, long_next, short_next, long_wrote, short_wrote, short_sum)
 
 -- an exclusive: three bytes, and its part of the source after them
 module _ (l s : List ℕ) (at place size : ℕ) (inside : place + 3 + size ≤ length s) where

@@ -57,9 +57,9 @@ module _ (voice : Voice) (source numbers : List ℕ) (count : ℕ) (counted : co
       none_left : r.rest ≡ []
       none_left = let e = sym (listed_over voice source numbers count i past) ∙ r.left in let q : [] ≡ r.rest = cc in sym q
 
-      pub filled-size : at ≡ start + length (list_bytes (items_given voice source numbers))
+      pub filled_size : at ≡ start + length (list_bytes (items_given voice source numbers))
       unfolding bytes_of
-      filled-size = sym (add-zero at) ∙ rw none_left at r.size
+      filled_size = sym (add-zero at) ∙ rw none_left at r.size
 
       pub filled : out ≡ sets l start (list_bytes (items_given voice source numbers))
       unfolding bytes_of
@@ -73,9 +73,9 @@ module _ (voice : Voice) (source numbers : List ℕ) (count : ℕ) (counted : co
       first : (item : Item Content) × (rest : List (Item Content)) × (one ≡ fine item) × (from voice source numbers count i (i + 1) ≡ fine rest) × (r.rest ≡ item ∷ rest)
       first = ahead_fine i one _ r.rest (sym (listed_next voice source numbers count i here) ∙ r.left)
 
-      pub fill-there : is_fine (item_given voice source (numbers ! (2 * i)) (numbers ! (2 * i + 1))) ≡ true
+      pub fill_there : is_fine (item_given voice source (numbers ! (2 * i)) (numbers ! (2 * i + 1))) ≡ true
       unfolding is_fine
-      fill-there = ap is_fine first.2
+      fill_there = ap is_fine first.2
 
       -- the bytes still to be stored: those of the item, and those after it
       split : bytes_of handy_phone r.rest ≡ given_bytes one ++ bytes_of handy_phone first.1
@@ -85,8 +85,8 @@ module _ (voice : Voice) (source numbers : List ℕ) (count : ℕ) (counted : co
       both : length (bytes_of handy_phone r.rest) ≡ length (given_bytes one) + length (bytes_of handy_phone first.1)
       both = ap length split ∙ length-append (given_bytes one) (bytes_of handy_phone first.1)
 
-      pub fill-room : at + length (given_bytes (item_given voice source (numbers ! (2 * i)) (numbers ! (2 * i + 1)))) ≤ length out
-      fill-room = omega (arith, r.room, both)
+      pub fill_room : at + length (given_bytes (item_given voice source (numbers ! (2 * i)) (numbers ! (2 * i + 1)))) ≤ length out
+      fill_room = omega (arith, r.room, both)
 
       pub fill_more : (m : List ℕ) (next : ℕ) → next ≡ at + length (given_bytes (item_given voice source (numbers ! (2 * i)) (numbers ! (2 * i + 1))))
           → m ≡ sets out at (given_bytes (item_given voice source (numbers ! (2 * i)) (numbers ! (2 * i + 1)))) → length m ≡ length out
@@ -104,4 +104,4 @@ module _ (voice : Voice) (source numbers : List ℕ) (count : ℕ) (counted : co
             whole = stored ∙ r.whole;
           }
 
-pub ruleset fills = (fill_starts, fill-there, fill-room, fill_more, filled-size, filled)
+pub ruleset fills = (fill_starts, fill_there, fill_room, fill_more, filled_size, filled)

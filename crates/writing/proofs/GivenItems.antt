@@ -147,29 +147,29 @@ module _ (voice : Voice) (source : List ℕ) (duration word : ℕ) where
   item_long h = simp lt-ltb
 
   module _ (short : duration ≤ 16511) where
-    pub mark-lasts : kind_in word ≡ 16 → (duration ≡ 0 → ⊥) → 23 ≡ fault_in (item_given voice source duration word)
+    pub mark_lasts : kind_in word ≡ 16 → (duration ≡ 0 → ⊥) → 23 ≡ fault_in (item_given voice source duration word)
     unfolding item_given if◌then◌else◌ ◌or◌ ◌and◌ ◌>>◌ fault_in
-    mark-lasts k h = simp (le-ltb, k, ne_eqb)
+    mark_lasts k h = simp (le-ltb, k, ne_eqb)
 
-    pub mark-exact : (z : ℕ) → kind_in word ≡ 16 → duration ≡ 0 → z ≡ fault_in (if word ≡? mark_word then passed else refused 23 0)
+    pub mark_exact : (z : ℕ) → kind_in word ≡ 16 → duration ≡ 0 → z ≡ fault_in (if word ≡? mark_word then passed else refused 23 0)
         → z ≡ fault_in (item_given voice source duration word)
     unfolding item_given if◌then◌else◌ ◌or◌ ◌and◌ ◌>>◌ is_kind
-    mark-exact z k h q = go voice
+    mark_exact z k h q = go voice
       where
         go : (v : Voice) → z ≡ fault_in (item_given v source duration word)
         go Score = simp (k, h) (fits_fault (word ≡? mark_word) (word ≡? mark_word) _ z refl q)
         go Pcm = simp (k, h) (fits_fault (word ≡? mark_word) (word ≡? mark_word) _ z refl q)
 
     module _ (other : kind_in word ≡ 16 → ⊥) (known : Bool) (is : known ≡ is_kind voice (kind_in word)) where
-      pub item-kind : not known ≡ true → 22 ≡ fault_in (item_given voice source duration word)
+      pub item_kind : not known ≡ true → 22 ≡ fault_in (item_given voice source duration word)
       unfolding item_given if◌then◌else◌ ◌or◌ ◌and◌ ◌>>◌ fault_in
-      item-kind h = let off = flag_off is h in simp (le-ltb, ne_eqb, off)
+      item_kind h = let off = flag_off is h in simp (le-ltb, ne_eqb, off)
 
-      pub item-word : (z : ℕ) → not known ≡ false → z ≡ fault_in (word_given source duration word) → z ≡ fault_in (item_given voice source duration word)
+      pub item_word : (z : ℕ) → not known ≡ false → z ≡ fault_in (word_given source duration word) → z ≡ fault_in (item_given voice source duration word)
       unfolding item_given if◌then◌else◌ ◌or◌ ◌and◌ ◌>>◌
-      item-word z h q = let on = flag_on is h in simp (le-ltb, ne_eqb, on) q
+      item_word z h q = let on = flag_on is h in simp (le-ltb, ne_eqb, on) q
 
-pub ruleset item_faults = (item_long, mark-lasts, mark-exact, item-kind, item-word)
+pub ruleset item_faults = (item_long, mark_lasts, mark_exact, item_kind, item_word)
 
 -- WHAT AN ITEM IS that has no fault: an end mark, or a duration and an event that can be written
 
@@ -241,23 +241,23 @@ module _ (source : List ℕ) (word : ℕ) (fault_free : is_fine (event_given sou
 
   module _ (note : kind_in word ≡ 1 → ⊥) (wave : kind_in word ≡ 2 → ⊥) (exclusive : kind_in word ≡ 14 → ⊥) (nop : kind_in word ≡ 15 → ⊥) (mark : kind_in word ≡ 16 → ⊥) where
     -- a kind of the voice that is none of these is a control of it
-    kind-has : (voice : Voice) → is_kind voice (kind_in word) ≡ true → (3 ≤ kind_in word) × (kind_in word ≤ 13) × (has_kind voice (kind_in word) ≡ true)
+    kind_has : (voice : Voice) → is_kind voice (kind_in word) ≡ true → (3 ≤ kind_in word) × (kind_in word ≤ 13) × (has_kind voice (kind_in word) ≡ true)
     unfolding is_kind has_kind ◌and◌ ◌or◌
-    kind-has Score known =
+    kind_has Score known =
         let low = leb-true 1 (kind_in word) (and_left _ _ known) in
         let high = leb-true (kind_in word) 16 (and_right (not (kind_in word ≡? 2)) _ (and_right (1 ≤? kind_in word) _ known)) in
         (omega arith, omega arith, refl)
-    kind-has Pcm known =
+    kind_has Pcm known =
         let has = and_left ((kind_in word ≡? 2) or ((7 ≤? kind_in word) and not (kind_in word ≡? 11))) _ known in
         let high = leb-true (kind_in word) 16 (and_right ((kind_in word ≡? 2) or ((7 ≤? kind_in word) and not (kind_in word ≡? 11))) _ known) in
         let so = simp (ne_eqb (kind_in word) 2 wave) at has in
         let low = leb-true 7 (kind_in word) (and_left _ _ so) in
         (omega arith, omega arith, so)
 
-    control-fits : (voice : Voice) → is_kind voice (kind_in word) ≡ true → event_fits voice source (event_in word) ≡ true
+    control_fits_lem : (voice : Voice) → is_kind voice (kind_in word) ≡ true → event_fits voice source (event_in word) ≡ true
     unfolding event_fits control_fits event_given
-    control-fits voice known =
-        let h = kind-has voice known in
+    control_fits_lem voice known =
+        let h = kind_has voice known in
         let is = in_control word h.0 h.1 in
         let few : channel_in word ≤ 3 = omega arith in
         rw is
@@ -272,7 +272,7 @@ event_fits_lem voice source word other known h =
     (λ note. by_test (kind_in word ≡? 2) (λ k. wave_fits_lem source word h voice (eqb-true _ 2 k) known)
     (λ wave. by_test (kind_in word ≡? 14) (λ k. exclusive_fits_lem source word h voice (eqb-true _ 14 k))
     (λ exclusive. by_test (kind_in word ≡? 15) (λ k. nop_fits source word h voice (eqb-true _ 15 k))
-    (λ nop. control-fits source word h (eqb-false _ 1 note) (eqb-false _ 2 wave) (eqb-false _ 14 exclusive) (eqb-false _ 15 nop) other voice known))))
+    (λ nop. control_fits_lem source word h (eqb-false _ 1 note) (eqb-false _ 2 wave) (eqb-false _ 14 exclusive) (eqb-false _ 15 nop) other voice known))))
 
 module _ (voice : Voice) (source : List ℕ) (duration word : ℕ) (item : Item Content) where
   abbrev rest : Checked (Item Content)
@@ -333,62 +333,62 @@ module _ (voice : Voice) (source : List ℕ) (duration word : ℕ) (there : is_f
   so = given_so voice source duration word the_item.0 the_item.1
 
   module _ (mark : kind_in word ≡ 16) where
-    mark-bytes : given_bytes (item_given voice source duration word) ≡ 0 ∷ 0 ∷ 0 ∷ 0 ∷ []
+    mark_bytes : given_bytes (item_given voice source duration word) ≡ 0 ∷ 0 ∷ 0 ∷ 0 ∷ []
     unfolding given_bytes item_bytes
-    mark-bytes =
+    mark_bytes =
         elim so [
           | inl m ↦ ap given_bytes the_item.1 ∙ ap (item_bytes handy_phone) m.is
           | inr e ↦ absurd (e.kind mark)
         ]
 
     module _ (l : List ℕ) (at : ℕ) where
-      pub mark-room : at + length (given_bytes (item_given voice source duration word)) ≤ length l → at + 4 ≤ length l
-      mark-room h = rw mark-bytes at h
+      pub mark_room : at + length (given_bytes (item_given voice source duration word)) ≤ length l → at + 4 ≤ length l
+      mark_room h = rw mark_bytes at h
 
       pub mark_next : (n : ℕ) → n ≡ at + 4 → n ≡ at + length (given_bytes (item_given voice source duration word))
-      mark_next n h = rw mark-bytes h
+      mark_next n h = rw mark_bytes h
 
-      pub mark-wrote : (m : List ℕ) → m ≡ sets l at (0 ∷ 0 ∷ 0 ∷ 0 ∷ []) → m ≡ sets l at (given_bytes (item_given voice source duration word))
-      mark-wrote m h = rw mark-bytes h
+      pub mark_wrote : (m : List ℕ) → m ≡ sets l at (0 ∷ 0 ∷ 0 ∷ 0 ∷ []) → m ≡ sets l at (given_bytes (item_given voice source duration word))
+      mark_wrote m h = rw mark_bytes h
 
   module _ (other : kind_in word ≡ 16 → ⊥) where
-    an-event : GivenEvent voice source duration word the_item.0
-    an-event = elim so [ inl m ↦ absurd (other m.kind) | inr e ↦ e ]
+    an_event : GivenEvent voice source duration word the_item.0
+    an_event = elim so [ inl m ↦ absurd (other m.kind) | inr e ↦ e ]
 
-    pub given-short : duration ≤ 16511
-    given-short = an-event.short
+    pub given_short : duration ≤ 16511
+    given_short = an_event.short
 
     module _ (event : Event) (is : event ≡ event_in word) where
-      pub given-fits : event_fits voice source event ≡ true
-      given-fits = ap (event_fits voice source) is ∙ an-event.fits
+      pub given_fits : event_fits voice source event ≡ true
+      given_fits = ap (event_fits voice source) is ∙ an_event.fits
 
-      pub event-bytes : given_bytes (item_given voice source duration word) ≡ timed_bytes source duration event
+      pub event_bytes : given_bytes (item_given voice source duration word) ≡ timed_bytes source duration event
       unfolding given_bytes timed_bytes
-      event-bytes = ap given_bytes the_item.1 ∙ ap (item_bytes handy_phone) an-event.is ∙ ap (timed_bytes source duration) (sym is)
+      event_bytes = ap given_bytes the_item.1 ∙ ap (item_bytes handy_phone) an_event.is ∙ ap (timed_bytes source duration) (sym is)
 
       module _ (l : List ℕ) (at : ℕ) where
-        pub given-room : at + length (given_bytes (item_given voice source duration word)) ≤ length l → at + length (timed_bytes source duration event) ≤ length l
-        given-room h = rw event-bytes at h
+        pub given_room : at + length (given_bytes (item_given voice source duration word)) ≤ length l → at + length (timed_bytes source duration event) ≤ length l
+        given_room h = rw event_bytes at h
 
-        pub given-next : (n : ℕ) → n ≡ at + length (timed_bytes source duration event) → n ≡ at + length (given_bytes (item_given voice source duration word))
-        given-next n h = rw event-bytes h
+        pub given_next : (n : ℕ) → n ≡ at + length (timed_bytes source duration event) → n ≡ at + length (given_bytes (item_given voice source duration word))
+        given_next n h = rw event_bytes h
 
-        pub given-wrote : (m : List ℕ) → m ≡ sets l at (timed_bytes source duration event) → m ≡ sets l at (given_bytes (item_given voice source duration word))
-        given-wrote m h = rw event-bytes h
+        pub given_wrote : (m : List ℕ) → m ≡ sets l at (timed_bytes source duration event) → m ≡ sets l at (given_bytes (item_given voice source duration word))
+        given_wrote m h = rw event_bytes h
 
-    pub given-first : (l : List ℕ) (at : ℕ) → at + length (given_bytes (item_given voice source duration word)) ≤ length l → at + length (duration_bytes duration) ≤ length l
-    given-first l at h = first_room source duration (event_in word) l at (given-room (event_in word) refl l at h)
+    pub given_first : (l : List ℕ) (at : ℕ) → at + length (given_bytes (item_given voice source duration word)) ≤ length l → at + length (duration_bytes duration) ≤ length l
+    given_first l at h = first_room source duration (event_in word) l at (given_room (event_in word) refl l at h)
 
   pub given_length : length (given_bytes (item_given voice source duration word)) ≡ given_size duration word
   unfolding given_size if◌then◌else◌
   given_length =
       elim so [
-        | inl m ↦ let k = m.kind in ap length (mark-bytes k) ∙ simp k
+        | inl m ↦ let k = m.kind in ap length (mark_bytes k) ∙ simp k
         | inr e ↦ let k = e.kind in
-            ap length (event-bytes k (event_in word) refl)
+            ap length (event_bytes k (event_in word) refl)
             ∙ timed_length source duration (event_in word)
             ∙ ap (λ (n : ℕ). length (duration_bytes duration) + n) (event_length_lem voice source (event_in word) e.fits)
             ∙ simp ne_eqb
       ]
 
-pub ruleset given_parts = (mark-room, mark_next, mark-wrote, given-short, given-fits, given-first, given-room, given-next, given-wrote)
+pub ruleset given_parts = (mark_room, mark_next, mark_wrote, given_short, given_fits, given_first, given_room, given_next, given_wrote)

@@ -70,9 +70,9 @@ module _ (voice : Voice) (s : List ℕ) (duration : ℕ) (event : Event) (l : Li
   too_long h = simp lt-leb
 
   module _ (lasts : duration ≤ 16511) (fit : Bool) (same : fit ≡ event_fits voice s event) where
-    pub no-event : not fit ≡ true → Unfit ≡ put_answer voice s duration event (length l) at
+    pub no_event : not fit ≡ true → Unfit ≡ put_answer voice s duration event (length l) at
     unfolding put_answer if◌then◌else◌
-    no-event h = let e = flag_off same h in simp (le-leb, e)
+    no_event h = let e = flag_off same h in simp (le-leb, e)
 
     module _ (holds : not fit ≡ false) where
       fits : event_fits voice s event ≡ true
@@ -83,25 +83,25 @@ module _ (voice : Voice) (s : List ℕ) (duration : ℕ) (event : Event) (l : Li
       past_end h = let e = fits in simp (le-leb, e)
 
       module _ (within : at ≤ length l) (size : ℕ) (sized : size ≡ length (duration_bytes duration) + event_size event) where
-        item-size : size ≡ length (timed_bytes s duration event)
-        item-size = sized ∙ ap (λ (n : ℕ). length (duration_bytes duration) + n) (sym (event_length_lem voice s event fits)) ∙ sym (timed_length s duration event)
+        item_size : size ≡ length (timed_bytes s duration event)
+        item_size = sized ∙ ap (λ (n : ℕ). length (duration_bytes duration) + n) (sym (event_length_lem voice s event fits)) ∙ sym (timed_length s duration event)
 
         pub no_room : length l - at < size → Full ≡ put_answer voice s duration event (length l) at
         unfolding put_answer if◌then◌else◌
-        no_room h = let e = fits in simp (le-leb, e, le-ltb, ← item-size)
+        no_room h = let e = fits in simp (le-leb, e, le-ltb, ← item_size)
 
         pub has_room : size ≤ length l - at → at + length (timed_bytes s duration event) ≤ length l
-        has_room h = let e = item-size in omega arith
+        has_room h = let e = item_size in omega arith
 
         pub all_done : (next : ℕ) → size ≤ length l - at → next ≡ at + length (timed_bytes s duration event)
             → Done next ≡ put_answer voice s duration event (length l) at
         unfolding put_answer if◌then◌else◌
-        all_done next h p = let e = fits in simp (le-leb, e, le-ltb, ← item-size) (ap Done (p ∙ ap (λ (n : ℕ). at + n) (sym item-size)))
+        all_done next h p = let e = fits in simp (le-leb, e, le-ltb, ← item_size) (ap Done (p ∙ ap (λ (n : ℕ). at + n) (sym item_size)))
 
-        pub all-written : (m : List ℕ) → size ≤ length l - at → m ≡ sets l at (timed_bytes s duration event) → m ≡ put_memory voice s duration event l at
+        pub all_written : (m : List ℕ) → size ≤ length l - at → m ≡ sets l at (timed_bytes s duration event) → m ≡ put_memory voice s duration event l at
         unfolding put_memory
-        all-written m h p = memory_done l at (timed_bytes s duration event) _ m _ (all_done _ h refl) p
+        all_written m h p = memory_done l at (timed_bytes s duration event) _ m _ (all_done _ h refl) p
 
-pub ruleset answers = (too_long, no-event, past_end, no_room, all_done)
+pub ruleset answers = (too_long, no_event, past_end, no_room, all_done)
 
 pub ruleset memories = (memory_full, memory_unfit)

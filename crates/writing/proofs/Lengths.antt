@@ -20,8 +20,8 @@ use Rattle.model.specs.declared.Event.{Event}
 use Rattle.model.specs.declared.Event.TheVariants.{Nop, Note, Wave, Control, Exclusive}
 use Rattle.model.proofs.Tests.{by_test, if_true, if_false, and_left, and_right, flag_on, flag_off}
 use Rattle.writing.specs.Parts.{event_size, fault_in, given_bytes, event_length, sound_length, control_length, exclusive_length}
-use Rattle.writing.proofs.WordCases.{in_note, in_wave, in_exclusive, in_nothing, in_control, exact-note, exact-wave, exact-exclusive, exact-control}
-use Rattle.writing.proofs.GivenItems.{Numbered, event_numbered, item_numbered, item_long, mark-lasts, mark-exact, item-kind, item-word, size_mark, size_event, given_length}
+use Rattle.writing.proofs.WordCases.{in_note, in_wave, in_exclusive, in_nothing, in_control, exact_note, exact_wave, exact_exclusive, exact_control}
+use Rattle.writing.proofs.GivenItems.{Numbered, event_numbered, item_numbered, item_long, mark_lasts, mark_exact, item_kind, item_word, size_mark, size_event, given_length}
 
 -- BY KIND
 
@@ -32,20 +32,20 @@ module _ (word : ℕ) where
   sound_sized allowed n a b c d e = simp (a, b, ne_eqb, le-ltb) (ap (λ (k : ℕ). 1 + k) e)
 
   module _ (fits : Bool) (exact : word % 0x20000 ≡ 0) (is : fits ≡ value_fits (kind_in word) (value_in word)) where
-    pub control-unfit : not fits ≡ true → 0 ≡ control_length word
+    pub control_unfit : not fits ≡ true → 0 ≡ control_length word
     unfolding control_length if◌then◌else◌
-    control-unfit h = let off = flag_off is h in simp (exact, off)
+    control_unfit h = let off = flag_off is h in simp (exact, off)
 
     module _ (h : not fits ≡ false) where
       pub control_long : kind_in word < 11 → 3 ≡ control_length word
       unfolding control_length if◌then◌else◌
       control_long k = let on = flag_on is h in simp (exact, on, lt-ltb)
 
-      pub control-brief : 11 ≤ kind_in word → 2 ≡ control_length word
+      pub control_brief : 11 ≤ kind_in word → 2 ≡ control_length word
       unfolding control_length if◌then◌else◌
-      control-brief k = let on = flag_on is h in simp (exact, on, le-ltb)
+      control_brief k = let on = flag_on is h in simp (exact, on, le-ltb)
 
-pub ruleset control_lengths = (control-unfit, control_long, control-brief)
+pub ruleset control_lengths = (control_unfit, control_long, control_brief)
 
 -- a length that two tests allow, in the order of the definition
 abbrev sized : Bool → Bool → ℕ → ℕ
@@ -86,29 +86,29 @@ module _ (source : List ℕ) (word : ℕ) where
   event_is event is exact e = rw (e, ← is) refl
 
   module _ (r : ℕ) where
-    pub length-note : kind_in word ≡ 1 → (allowed : Bool) → allowed ≡ ((value_in word ≤? 63) and is_note (value_in word % 16)) → r ≡ sound_length allowed word
+    pub length_note : kind_in word ≡ 1 → (allowed : Bool) → allowed ≡ ((value_in word ≤? 63) and is_note (value_in word % 16)) → r ≡ sound_length allowed word
         → r ≡ event_length source word
     unfolding event_given event_size
-    length-note k allowed a h =
-        h ∙ sound_is allowed word ∙ rw a (event_is (Note (channel_in word) (value_in word) (gate_in word)) (in_note word k) (word % 4 ≡? 0) (exact-note word _ k refl))
+    length_note k allowed a h =
+        h ∙ sound_is allowed word ∙ rw a (event_is (Note (channel_in word) (value_in word) (gate_in word)) (in_note word k) (word % 4 ≡? 0) (exact_note word _ k refl))
 
-    pub length-wave : kind_in word ≡ 2 → (allowed : Bool) → allowed ≡ is_wave (value_in word) → r ≡ sound_length allowed word → r ≡ event_length source word
+    pub length_wave : kind_in word ≡ 2 → (allowed : Bool) → allowed ≡ is_wave (value_in word) → r ≡ sound_length allowed word → r ≡ event_length source word
     unfolding event_given event_size
-    length-wave k allowed a h =
-        h ∙ sound_is allowed word ∙ rw a (event_is (Wave (channel_in word) (value_in word) (gate_in word)) (in_wave word k) (word % 4 ≡? 0) (exact-wave word _ k refl))
+    length_wave k allowed a h =
+        h ∙ sound_is allowed word ∙ rw a (event_is (Wave (channel_in word) (value_in word) (gate_in word)) (in_wave word k) (word % 4 ≡? 0) (exact_wave word _ k refl))
 
-    pub length-control : 0 < kind_in word → (kind_in word ≡ 1 → ⊥) → (kind_in word ≡ 2 → ⊥) → kind_in word < 14 → r ≡ control_length word → r ≡ event_length source word
+    pub length_control : 0 < kind_in word → (kind_in word ≡ 1 → ⊥) → (kind_in word ≡ 2 → ⊥) → kind_in word < 14 → r ≡ control_length word → r ≡ event_length source word
     unfolding event_given event_size
-    length-control some note wave low h =
+    length_control some note wave low h =
         let from : 3 ≤ kind_in word = omega arith in
         let to : kind_in word ≤ 13 = omega arith in
         h ∙ control_is word
-        ∙ event_is (Control (kind_in word) (channel_in word) (value_in word)) (in_control word from to) (word % 0x20000 ≡? 0) (exact-control word _ from to refl)
+        ∙ event_is (Control (kind_in word) (channel_in word) (value_in word)) (in_control word from to) (word % 0x20000 ≡? 0) (exact_control word _ from to refl)
 
-    pub length-exclusive : kind_in word ≡ 14 → r ≡ exclusive_length source word → r ≡ event_length source word
+    pub length_exclusive : kind_in word ≡ 14 → r ≡ exclusive_length source word → r ≡ event_length source word
     unfolding event_given event_size
-    length-exclusive k h =
-        h ∙ exclusive_is source word ∙ event_is (Exclusive (place_in word) (size_in word)) (in_exclusive word k) (word % 8 ≡? 0) (exact-exclusive word _ k refl)
+    length_exclusive k h =
+        h ∙ exclusive_is source word ∙ event_is (Exclusive (place_in word) (size_in word)) (in_exclusive word k) (word % 8 ≡? 0) (exact_exclusive word _ k refl)
 
   module _ (past : 14 < kind_in word) where
     nothing : event_in word ≡ Nop
@@ -122,7 +122,7 @@ module _ (source : List ℕ) (word : ℕ) where
   unfolding event_length event_given event_word event_size is_fine if◌then◌else◌ ◌and◌
   length_nop h = let past : 14 < kind_in word = omega arith in rw (nothing past) (simp (eq-eqb 0x78000000 word (sym h)))
 
-pub ruleset event_lengths = (length-note, length-wave, length-control, length-exclusive, length_other, length_nop)
+pub ruleset event_lengths = (length_note, length_wave, length_control, length_exclusive, length_other, length_nop)
 
 -- THE WHOLE ITEM: one that is at fault has no bytes
 
@@ -137,15 +137,15 @@ fault_free (fine a) k e = refl
 fault_free (refused number place) k e = absurd (omega arith)
 
 module _ (exact : Bool) (item : Item Content) where
-  abbrev then-exact : Checked (Unit {0}) → Checked (Item Content)
-  then-exact o = o >> (if exact then fine item else refused 23 0)
+  abbrev then_exact : Checked (Unit {0}) → Checked (Item Content)
+  then_exact o = o >> (if exact then fine item else refused 23 0)
 
-  exact_free : (o : Checked (Unit {0})) → (is_fine o and exact) ≡ true → 0 ≡ fault_in (then-exact o)
+  exact_free : (o : Checked (Unit {0})) → (is_fine o and exact) ≡ true → 0 ≡ fault_in (then_exact o)
   unfolding fault_in is_fine ◌>>◌ ◌and◌ if◌then◌else◌
   exact_free (fine a) h = simp h
   exact_free (refused number place) h = absurd (false≢true h)
 
-  exact_faulty : (o : Checked (Unit {0})) → Numbered o → (is_fine o and exact) ≡ false → 0 < fault_in (then-exact o)
+  exact_faulty : (o : Checked (Unit {0})) → Numbered o → (is_fine o and exact) ≡ false → 0 < fault_in (then_exact o)
   unfolding fault_in is_fine ◌>>◌ ◌and◌ if◌then◌else◌
   exact_faulty (fine a) k h = simp h (omega arith)
   exact_faulty (refused number place) k h = k
@@ -169,33 +169,33 @@ module _ (voice : Voice) (source : List ℕ) (duration word : ℕ) where
   length_long h = faulty 23 (item_long voice source duration word h) (λ e. omega arith)
 
   module _ (short : duration ≤ 16511) where
-    pub length-mark : word ≡ 0x80000000 → duration ≡ 0 → 4 ≡ length (given_bytes (item_given voice source duration word))
+    pub length_mark : word ≡ 0x80000000 → duration ≡ 0 → 4 ≡ length (given_bytes (item_given voice source duration word))
     unfolding fault_in if◌then◌else◌
-    length-mark w h =
+    length_mark w h =
         let k : kind_in word ≡ 16 = omega arith in
-        let free = mark-exact voice source duration word short 0 k h (simp (eq-eqb word mark_word w)) in
+        let free = mark_exact voice source duration word short 0 k h (simp (eq-eqb word mark_word w)) in
         size_mark duration word k ∙ sym (given_length voice source duration word (faultless free))
 
-    pub length-lasting : word ≡ 0x80000000 → (duration ≡ 0 → ⊥) → 0 ≡ length (given_bytes (item_given voice source duration word))
-    length-lasting w h = let k : kind_in word ≡ 16 = omega arith in faulty 23 (mark-lasts voice source duration word short k h) (λ e. omega arith)
+    pub length_lasting : word ≡ 0x80000000 → (duration ≡ 0 → ⊥) → 0 ≡ length (given_bytes (item_given voice source duration word))
+    length_lasting w h = let k : kind_in word ≡ 16 = omega arith in faulty 23 (mark_lasts voice source duration word short k h) (λ e. omega arith)
 
     module _ (other : word ≡ 0x80000000 → ⊥) where
-      stray-mark : kind_in word ≡ 16 → 0 ≡ length (given_bytes (item_given voice source duration word))
+      stray_mark : kind_in word ≡ 16 → 0 ≡ length (given_bytes (item_given voice source duration word))
       unfolding fault_in if◌then◌else◌
-      stray-mark k =
+      stray_mark k =
           by_test (duration ≡? 0)
-          (λ h. faulty 23 (mark-exact voice source duration word short 23 k (eqb-true duration 0 h) (simp (ne_eqb word mark_word other))) (λ e. omega arith))
-          (λ h. faulty 23 (mark-lasts voice source duration word short k (eqb-false duration 0 h)) (λ e. omega arith))
+          (λ h. faulty 23 (mark_exact voice source duration word short 23 k (eqb-true duration 0 h) (simp (ne_eqb word mark_word other))) (λ e. omega arith))
+          (λ h. faulty 23 (mark_lasts voice source duration word short k (eqb-false duration 0 h)) (λ e. omega arith))
 
       module _ (known : Bool) (is : known ≡ is_kind voice (kind_in word)) where
-        pub length-kind : not known ≡ true → 0 ≡ length (given_bytes (item_given voice source duration word))
-        length-kind h =
-            by_test (kind_in word ≡? 16) (λ k. stray-mark (eqb-true _ 16 k))
-            (λ k. faulty 22 (item-kind voice source duration word short (eqb-false _ 16 k) known is h) (λ e. omega arith))
+        pub length_kind : not known ≡ true → 0 ≡ length (given_bytes (item_given voice source duration word))
+        length_kind h =
+            by_test (kind_in word ≡? 16) (λ k. stray_mark (eqb-true _ 16 k))
+            (λ k. faulty 22 (item_kind voice source duration word short (eqb-false _ 16 k) known is h) (λ e. omega arith))
 
-        pub kind-some : not known ≡ false → 0 < kind_in word
+        pub kind_some : not known ≡ false → 0 < kind_in word
         unfolding is_kind ◌and◌ ◌or◌
-        kind-some h = go voice (flag_on is h)
+        kind_some h = go voice (flag_on is h)
           where
             go : (v : Voice) → is_kind v (kind_in word) ≡ true → 0 < kind_in word
             go Score q = let low = leb-true 1 (kind_in word) (and_left _ _ q) in omega arith
@@ -205,13 +205,13 @@ module _ (voice : Voice) (source : List ℕ) (duration word : ℕ) where
           pub length_none : size ≡ 0 → 0 ≡ length (given_bytes (item_given voice source duration word))
           unfolding event_length word_given
           length_none h =
-              by_test (kind_in word ≡? 16) (λ k. stray-mark (eqb-true _ 16 k))
+              by_test (kind_in word ≡? 16) (λ k. stray_mark (eqb-true _ 16 k))
               (λ k.
               let off : (is_fine (event_given source (event_in word)) and (event_word (event_in word) ≡? word)) ≡ false =
               by_test (is_fine (event_given source (event_in word)) and (event_word (event_in word) ≡? word))
               (λ q. let e = sized ∙ if_true _ (event_size (event_in word)) 0 q in let some = size_some (event_in word) in absurd (omega arith)) (λ q. q) in
               let over : 0 < fault_in (word_given source duration word) = exact_faulty _ _ (event_given source (event_in word)) (event_numbered source (event_in word)) off in
-              faulty _ (item-word voice source duration word short (eqb-false _ 16 k) known is _ holds refl) (λ e. omega arith))
+              faulty _ (item_word voice source duration word short (eqb-false _ 16 k) known is _ holds refl) (λ e. omega arith))
 
           pub length_some : (more : ℕ) → (size ≡ 0 → ⊥) → more ≡ length (duration_bytes duration) → more + size ≡ length (given_bytes (item_given voice source duration word))
           unfolding event_length word_given event_word
@@ -222,9 +222,9 @@ module _ (voice : Voice) (source : List ℕ) (duration word : ℕ) where
               let kind : kind_in word ≡ 16 → ⊥ = λ k.
               let e : 0x78000000 ≡ word = ap event_word (sym (in_nothing word (inr (omega arith)) (λ q. omega arith) (λ q. omega arith))) ∙ exact in omega arith in
               let free = exact_free _ _ (event_given source (event_in word)) on in
-              let there = faultless (item-word voice source duration word short kind known is 0 holds free) in
+              let there = faultless (item_word voice source duration word short kind known is 0 holds free) in
               let all : more + size ≡ length (duration_bytes duration) + event_size (event_in word) =
               ap (λ (n : ℕ). n + size) lasts ∙ ap (λ (n : ℕ). length (duration_bytes duration) + n) (sized ∙ if_true test (event_size (event_in word)) 0 on) in
               size_event duration word kind (event_in word) refl (more + size) all ∙ sym (given_length voice source duration word there)
 
-pub ruleset item_lengths = (length_long, length-mark, length-lasting, length-kind, kind-some, length_none, length_some)
+pub ruleset item_lengths = (length_long, length_mark, length_lasting, length_kind, kind_some, length_none, length_some)

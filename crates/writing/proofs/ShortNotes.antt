@@ -22,8 +22,8 @@ use Rattle.writing.specs.Parts.{sound_bytes, given_bytes, is_narrow, is_short_no
 use Rattle.writing.proofs.Durations.{one_byte}
 use Rattle.writing.proofs.Contents.{note_fit, note_bytes}
 use Rattle.writing.proofs.WordCases.{in_note}
-use Rattle.writing.proofs.GivenItems.{given-fits, event-bytes}
-use Rattle.writing.proofs.Lengths.{length-note, length_some}
+use Rattle.writing.proofs.GivenItems.{given_fits, event_bytes}
+use Rattle.writing.proofs.Lengths.{length_note, length_some}
 
 -- HOW THEY ARE TOLD
 module _ (word : ℕ) (z : Bool) where
@@ -77,13 +77,13 @@ module _ (voice : Voice) (source : List ℕ) (duration word : ℕ) (there : is_f
 
   pub short_note : ShortNote duration word
   short_note =
-      let fit = note_fit voice source _ (channel_in word) (value_in word) (gate_in word) (given-fits voice source duration word there no_mark _ said) refl in
+      let fit = note_fit voice source _ (channel_in word) (value_in word) (gate_in word) (given_fits voice source duration word there no_mark _ said) refl in
       record { brief = omega arith; small = fit.small; narrow = let g = gate_small in omega arith }
 
   short_bytes_lem : given_bytes (item_given voice source duration word) ≡ short_bytes duration word
   unfolding timed_bytes item_bytes short_bytes sound_bytes
   short_bytes_lem =
-      event-bytes voice source duration word there no_mark _ said
+      event_bytes voice source duration word there no_mark _ said
       ∙ ap (λ (bytes : List ℕ). bytes ++ content_bytes (content_of source (Note (channel_in word) (value_in word) (gate_in word)))) (one_byte duration brief)
       ∙ ap (λ (bytes : List ℕ). duration ∷ bytes) (note_bytes voice source _ (channel_in word) (value_in word) (gate_in word) refl)
       ∙ ap (λ (bytes : List ℕ). duration ∷ (channel_in word * 64 + value_in word) ∷ bytes) (one_byte (gate_in word) gate_small)
@@ -116,21 +116,21 @@ module _ (source : List ℕ) (duration word : ℕ) (short : is_short_note durati
   unfolding is_short_note is_kind sound_length if◌then◌else◌ ◌and◌
   score_length =
       let brief = leb-true duration 127 (and_left _ _ short) in
-      let from-kind = and_right (duration ≤? 127) _ short in
-      let kind = eqb-true (kind_in word) 1 (and_left _ _ from-kind) in
-      let from-value = and_right (kind_in word ≡? 1) _ from-kind in
-      let value = and_left (value_in word ≤? 63) _ from-value in
-      let from-gate = and_right (value_in word ≤? 63) _ from-value in
-      let narrow = leb-true (gate_in word) 127 (and_left _ _ from-gate) in
-      let from_bits = and_right (gate_in word ≤? 127) _ from-gate in
+      let from_kind = and_right (duration ≤? 127) _ short in
+      let kind = eqb-true (kind_in word) 1 (and_left _ _ from_kind) in
+      let from_value = and_right (kind_in word ≡? 1) _ from_kind in
+      let value = and_left (value_in word ≤? 63) _ from_value in
+      let from_gate = and_right (value_in word ≤? 63) _ from_value in
+      let narrow = leb-true (gate_in word) 127 (and_left _ _ from_gate) in
+      let from_bits = and_right (gate_in word ≤? 127) _ from_gate in
       let exact = and_left (word % 4 ≡? 0) _ from_bits in
-      let from-note = and_right (word % 4 ≡? 0) _ from_bits in
-      let note = and_left (is_note (value_in word % 16)) _ from-note in
-      let sounds = not-true (gate_in word ≡? 0) (and_right (is_note (value_in word % 16)) _ from-note) in
+      let from_note = and_right (word % 4 ≡? 0) _ from_bits in
+      let note = and_left (is_note (value_in word % 16)) _ from_note in
+      let sounds = not-true (gate_in word ≡? 0) (and_right (is_note (value_in word % 16)) _ from_note) in
       let fits : allowed ≡ true = both_true _ _ value note in
       let gate : gate_in word < 128 = omega arith in
       let two : 2 ≡ sound_length allowed word = rw fits (simp (exact, sounds, le-ltb 16511 (gate_in word) (omega arith), one_byte (gate_in word) gate)) in
-      let event = length-note source word 2 kind allowed refl two in
+      let event = length_note source word 2 kind allowed refl two in
       length_some Score source duration word (omega arith) (λ e. omega arith) true (simp kind) refl 2 event 1 (λ e. omega arith)
       (sym (ap length (one_byte duration (omega arith))))
 

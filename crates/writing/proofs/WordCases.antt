@@ -51,80 +51,80 @@ module _ (word : ℕ) where
       (λ h. h ∙ sym (ne_eqb back word (λ e. eqb-false bits 0 h (here e))))
 
   module _ (z : Bool) where
-    pub exact-note : kind_in word ≡ 1 → z ≡ (word % 4 ≡? 0) → z ≡ (event_word (event_in word) ≡? word)
+    pub exact_note : kind_in word ≡ 1 → z ≡ (word % 4 ≡? 0) → z ≡ (event_word (event_in word) ≡? word)
     unfolding event_word word_of
-    exact-note k e =
+    exact_note k e =
         let low : word / 0x20000 ≡ word / 4 / 0x8000 = omega arith in
         let high : word / 0x2000000 ≡ word / 0x20000 / 256 = omega arith in
         let top : word / 0x8000000 ≡ word / 0x2000000 / 4 = omega arith in
         rw (in_note k)
         (e ∙ same_test (packed 1 (channel_in word) (value_in word) (gate_in word)) (word % 4) (λ h. omega arith) (λ h. omega arith))
 
-    pub exact-wave : kind_in word ≡ 2 → z ≡ (word % 4 ≡? 0) → z ≡ (event_word (event_in word) ≡? word)
+    pub exact_wave : kind_in word ≡ 2 → z ≡ (word % 4 ≡? 0) → z ≡ (event_word (event_in word) ≡? word)
     unfolding event_word word_of
-    exact-wave k e =
+    exact_wave k e =
         let low : word / 0x20000 ≡ word / 4 / 0x8000 = omega arith in
         let high : word / 0x2000000 ≡ word / 0x20000 / 256 = omega arith in
         let top : word / 0x8000000 ≡ word / 0x2000000 / 4 = omega arith in
         rw (in_wave k)
         (e ∙ same_test (packed 2 (channel_in word) (value_in word) (gate_in word)) (word % 4) (λ h. omega arith) (λ h. omega arith))
 
-    pub exact-exclusive : kind_in word ≡ 14 → z ≡ (word % 8 ≡? 0) → z ≡ (event_word (event_in word) ≡? word)
+    pub exact_exclusive : kind_in word ≡ 14 → z ≡ (word % 8 ≡? 0) → z ≡ (event_word (event_in word) ≡? word)
     unfolding event_word word_of
-    exact-exclusive k e = rw (in_exclusive k) (e ∙ same_test (packed_exclusive (place_in word) (size_in word)) (word % 8) (λ h. omega arith) (λ h. omega arith))
+    exact_exclusive k e = rw (in_exclusive k) (e ∙ same_test (packed_exclusive (place_in word) (size_in word)) (word % 8) (λ h. omega arith) (λ h. omega arith))
 
     module _ (note : kind_in word ≡ 1 → ⊥) (wave : kind_in word ≡ 2 → ⊥) where
       pub exact_none : kind_in word < 3 → z ≡ false → z ≡ (event_word (event_in word) ≡? word)
       unfolding event_word
       exact_none low e = rw (in_nothing (inl low) note wave) (e ∙ sym (ne_eqb (packed 15 0 0 0) word (λ e. omega arith)))
 
-      pub exact-nop : 3 ≤ kind_in word → (kind_in word ≡ 14 → ⊥) → 13 < kind_in word → z ≡ (word ≡? 0x78000000) → z ≡ (event_word (event_in word) ≡? word)
+      pub exact_nop : 3 ≤ kind_in word → (kind_in word ≡ 14 → ⊥) → 13 < kind_in word → z ≡ (word ≡? 0x78000000) → z ≡ (event_word (event_in word) ≡? word)
       unfolding event_word
-      exact-nop from exclusive high e =
+      exact_nop from exclusive high e =
           let past : 14 < kind_in word = omega arith in
           rw (in_nothing (inr past) note wave)
           (e ∙ by_test (word ≡? 0x78000000) (λ h. h ∙ sym (eq-eqb (packed 15 0 0 0) word (sym (eqb-true word _ h))))
           (λ h. h ∙ sym (ne_eqb (packed 15 0 0 0) word (λ q. eqb-false word _ h (sym q)))))
 
-    pub exact-control : 3 ≤ kind_in word → kind_in word ≤ 13 → z ≡ (word % 0x20000 ≡? 0) → z ≡ (event_word (event_in word) ≡? word)
+    pub exact_control : 3 ≤ kind_in word → kind_in word ≤ 13 → z ≡ (word % 0x20000 ≡? 0) → z ≡ (event_word (event_in word) ≡? word)
     unfolding event_word word_of
-    exact-control from to e =
+    exact_control from to e =
         rw (in_control from to)
         (e ∙ same_test (packed (kind_in word) (channel_in word) (value_in word) 0) (word % 0x20000) (λ h. omega arith) (λ h. omega arith))
 
-pub ruleset exact = (exact-note, exact-wave, exact-exclusive, exact_none, exact-nop, exact-control)
+pub ruleset exact = (exact_note, exact_wave, exact_exclusive, exact_none, exact_nop, exact_control)
 
 -- the kinds of a voice, test by test
 module _ (voice : Voice) (kind : ℕ) where
   module _ (is : voice ≡ Score) where
-    pub score-none : kind < 1 → false ≡ is_kind voice kind
+    pub score_none : kind < 1 → false ≡ is_kind voice kind
     unfolding is_kind ◌and◌
-    score-none h = rw is (simp lt-leb)
+    score_none h = rw is (simp lt-leb)
 
-    pub score-wave : kind ≡ 2 → false ≡ is_kind voice kind
+    pub score_wave : kind ≡ 2 → false ≡ is_kind voice kind
     unfolding is_kind ◌and◌
-    score-wave h = rw (is, h) refl
+    score_wave h = rw (is, h) refl
 
-    pub score-kind : (z : Bool) → 1 ≤ kind → (kind ≡ 2 → ⊥) → z ≡ (kind ≤? 16) → z ≡ is_kind voice kind
+    pub score_kind : (z : Bool) → 1 ≤ kind → (kind ≡ 2 → ⊥) → z ≡ (kind ≤? 16) → z ≡ is_kind voice kind
     unfolding is_kind ◌and◌
-    score-kind z h k e = rw is (simp (le-leb, ne_eqb) e)
+    score_kind z h k e = rw is (simp (le-leb, ne_eqb) e)
 
   module _ (is : voice ≡ Pcm) where
-    pub pcm-wave : kind ≡ 2 → true ≡ is_kind voice kind
+    pub pcm_wave : kind ≡ 2 → true ≡ is_kind voice kind
     unfolding is_kind ◌and◌ ◌or◌
-    pcm-wave h = rw (is, h) refl
+    pcm_wave h = rw (is, h) refl
 
     module _ (other : kind ≡ 2 → ⊥) where
-      pub pcm-none : kind < 7 → false ≡ is_kind voice kind
+      pub pcm_none : kind < 7 → false ≡ is_kind voice kind
       unfolding is_kind ◌and◌ ◌or◌
-      pcm-none h = rw is (simp (ne_eqb, lt-leb))
+      pcm_none h = rw is (simp (ne_eqb, lt-leb))
 
-      pub pcm-short : 7 ≤ kind → kind ≡ 11 → false ≡ is_kind voice kind
+      pub pcm_short : 7 ≤ kind → kind ≡ 11 → false ≡ is_kind voice kind
       unfolding is_kind ◌and◌ ◌or◌
-      pcm-short h k = rw (is, k) refl
+      pcm_short h k = rw (is, k) refl
 
-      pub pcm-kind : (z : Bool) → 7 ≤ kind → (kind ≡ 11 → ⊥) → z ≡ (kind ≤? 16) → z ≡ is_kind voice kind
+      pub pcm_kind : (z : Bool) → 7 ≤ kind → (kind ≡ 11 → ⊥) → z ≡ (kind ≤? 16) → z ≡ is_kind voice kind
       unfolding is_kind ◌and◌ ◌or◌
-      pcm-kind z h k e = rw is (simp (le-leb, ne_eqb) e)
+      pcm_kind z h k e = rw is (simp (le-leb, ne_eqb) e)
 
-pub ruleset kinds = (score-none, score-wave, score-kind, pcm-wave, pcm-none, pcm-short, pcm-kind)
+pub ruleset kinds = (score_none, score_wave, score_kind, pcm_wave, pcm_none, pcm_short, pcm_kind)

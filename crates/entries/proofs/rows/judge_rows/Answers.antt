@@ -1,6 +1,6 @@
 use native.Mathlib.Omega.{arith}
 use borrow.Author.Rules.{rules}
-use Rattle.entries.proofs.Holding.{holding, holding-goes-on}
+use Rattle.entries.proofs.Holding.{holding, holding_goes_on}
 use Rattle.entries.proofs.rows.judge_rows.Goals as goal
 
 pub loop-i-init : goal.loop-i-init
@@ -23,7 +23,7 @@ loop-i-smaller c = search (rules, holding)
 
 pub loop-i-preserved : goal.loop-i-preserved
 loop-i-preserved c =
-    holding-goes-on _ _ _ _ _ _ _ _ _ c.loop-i.invariant _ _ (omega arith) c.row_at-row.ensures c.judge_row-judged.ensures (search rules)
+    holding_goes_on _ _ _ _ _ _ _ _ _ c.loop-i.invariant _ _ (omega arith) c.row_at-row.ensures c.judge_row-judged.ensures (search rules)
 
 pub returns : goal.returns
 returns c = search (rules, holding)

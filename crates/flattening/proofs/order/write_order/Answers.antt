@@ -1,6 +1,6 @@
 use borrow.Author.Rules.{rules}
 use native.Mathlib.Omega.{arith}
-use Rattle.flattening.proofs.Ordering.{store_starts, store-shape, storing}
+use Rattle.flattening.proofs.Ordering.{store_starts, store_shape, storing}
 use Rattle.flattening.proofs.order.write_order.Goals as goal
 
 pub loop-i-init : goal.loop-i-init
@@ -34,7 +34,7 @@ bounds-places-slot c = search (rules, storing)
 
 pub write_section-told-requires : goal.write_section-told-requires
 write_section-told-requires c =
-    record { body_len_bound = search rules; body_value = search rules; playable = search storing; shape_value = store-shape _ _ _ _ _ _ _ _ _ _ _ _ c.loop-i.invariant (search rules); span_rises = search storing; lasts_bound = search storing; past_le_before = search storing; before_in_bounds = search storing; written_where_known = search storing }
+    record { body_len_bound = search rules; body_value = search rules; playable = search storing; shape_value = store_shape _ _ _ _ _ _ _ _ _ _ _ _ c.loop-i.invariant (search rules); span_rises = search storing; lasts_bound = search storing; past_le_before = search storing; before_in_bounds = search storing; written_where_known = search storing }
 
 pub overflow_sub-places : goal.overflow_sub-places
 overflow_sub-places c = search (rules, storing)

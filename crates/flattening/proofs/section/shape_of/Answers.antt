@@ -1,6 +1,6 @@
 use borrow.Author.Rules.{rules}
 use native.Mathlib.Omega.{arith}
-use Rattle.flattening.proofs.Shaping.{shape_starts, shapes, shape-slight, shape_known_ends}
+use Rattle.flattening.proofs.Shaping.{shape_starts, shapes, shape_slight, shape_known_ends}
 use Rattle.flattening.proofs.section.shape_of.Goals as goal
 
 pub no_message-outline-requires : goal.no_message-outline-requires
@@ -14,7 +14,7 @@ pub shape_in-requires : goal.shape_in-requires
 shape_in-requires c = search (rules, shapes)
 
 pub returns-then-count-eq0 : goal.returns-then-count-eq0
-returns-then-count-eq0 c = record { value = search shape_known_ends; bytes_bound = search shape-slight }
+returns-then-count-eq0 c = record { value = search shape_known_ends; bytes_bound = search shape_slight }
 
 pub read_item-requires : goal.read_item-requires
 read_item-requires c = search (rules, shapes)
@@ -68,10 +68,10 @@ pub shape_in-requires-in-Refused : goal.shape_in-requires-in-Refused
 shape_in-requires-in-Refused c = search (rules, shapes)
 
 pub returns-in-Refused : goal.returns-in-Refused
-returns-in-Refused c = record { value = search shape_known_ends; bytes_bound = search shape-slight }
+returns-in-Refused c = record { value = search shape_known_ends; bytes_bound = search shape_slight }
 
 pub shape_in-requires-2 : goal.shape_in-requires-2
 shape_in-requires-2 c = search (rules, shapes)
 
 pub returns : goal.returns
-returns c = record { value = search shape_known_ends; bytes_bound = search shape-slight }
+returns c = record { value = search shape_known_ends; bytes_bound = search shape_slight }

@@ -4,9 +4,9 @@ use mathlib.Core.Path.{ap}
 use native.Mathlib.Omega.{arith}
 use Rattle.model.specs.Bytes.{◌!◌}
 use Rattle.model.specs.Item.{items_of}
-use Rattle.playing.proofs.Tables.{Known, known-before, known-now}
+use Rattle.playing.proofs.Tables.{Known, known_before, known_now}
 use Rattle.flattening.specs.Orders.{no_shape}
-use Rattle.flattening.proofs.Sizing.{ShapeOf, measure_starts, measure-gap, measure-slight, measure-turns, measuring}
+use Rattle.flattening.proofs.Sizing.{ShapeOf, measure_starts, measure_gap, measure_slight, measure_turns, measuring}
 use Rattle.flattening.proofs.sizes.measure_order.Goals as goal
 use Rattle.flattening.proofs.sizes.measure_order.Goals.{then-not-known-slot, else-not-known-slot}
 
@@ -61,13 +61,13 @@ add_shape-size-requires c =
     (c.args.letters.now ! c.loop-i.i) c.loop-i.known c.if-not-known-slot.shapes c.if-not-known-slot.known =
     elim c.if-not-known-slot.branch [
       | then-not-known-slot w ↦
-          known-now no_shape _ _ _ _ inv.table _ _ _ (inv.bytes _) (w.shape_of.ensures.value, w.shape_of.ensures.bytes_bound) w.shapes-is w.known-is
-      | else-not-known-slot w ↦ known-before no_shape _ _ _ _ inv.table _ _ (ap not w.if-not-known-slot.false) w.shapes-is w.known-is
+          known_now no_shape _ _ _ _ inv.table _ _ _ (inv.bytes _) (w.shape_of.ensures.value, w.shape_of.ensures.bytes_bound) w.shapes-is w.known-is
+      | else-not-known-slot w ↦ known_before no_shape _ _ _ _ inv.table _ _ (ap not w.if-not-known-slot.false) w.shapes-is w.known-is
     ] in
     record {
       bytes_bound = search rules;
-      gap_bound = measure-gap _ _ _ _ _ _ _ _ _ inv;
-      slight = measure-slight _ _ _ _ _ _ _ _ _ inv (search rules) _ _ known;
+      gap_bound = measure_gap _ _ _ _ _ _ _ _ _ inv;
+      slight = measure_slight _ _ _ _ _ _ _ _ _ inv (search rules) _ _ known;
     }
 
 pub overflow_add-i : goal.overflow_add-i
@@ -83,10 +83,10 @@ loop-i-preserved c =
     (c.args.letters.now ! c.loop-i.i) c.loop-i.known c.if-not-known-slot.shapes c.if-not-known-slot.known =
     elim c.if-not-known-slot.branch [
       | then-not-known-slot w ↦
-          known-now no_shape _ _ _ _ inv.table _ _ _ (inv.bytes _) (w.shape_of.ensures.value, w.shape_of.ensures.bytes_bound) w.shapes-is w.known-is
-      | else-not-known-slot w ↦ known-before no_shape _ _ _ _ inv.table _ _ (ap not w.if-not-known-slot.false) w.shapes-is w.known-is
+          known_now no_shape _ _ _ _ inv.table _ _ _ (inv.bytes _) (w.shape_of.ensures.value, w.shape_of.ensures.bytes_bound) w.shapes-is w.known-is
+      | else-not-known-slot w ↦ known_before no_shape _ _ _ _ inv.table _ _ (ap not w.if-not-known-slot.false) w.shapes-is w.known-is
     ] in
-    measure-turns _ _ _ _ _ _ _ _ _ inv (search rules) _ _ known _ (search rules) (search rules)
+    measure_turns _ _ _ _ _ _ _ _ _ inv (search rules) _ _ known _ (search rules) (search rules)
 
 pub whole_size-requires : goal.whole_size-requires
 whole_size-requires c = record { bytes_bound = search measuring; gap_bound = search measuring }

@@ -1,12 +1,12 @@
 -- `giving::operation::entries_of` meets its contract.
 use Rattle.model.proofs.Parts.{front_length}
-use Rattle.giving.proofs.TrackNamed.{named-within}
+use Rattle.giving.proofs.TrackNamed.{named_within}
 use Rattle.giving.proofs.EntriesGiven.{track_entries}
 use borrow.Author.Rules.{rules}
 use Rattle.giving.proofs.operation.entries_of.Goals as goal
 
 pub slice_bounds-give_entries-end : goal.slice_bounds-give_entries-end
-slice_bounds-give_entries-end c = search (rules, front_length, named-within)
+slice_bounds-give_entries-end c = search (rules, front_length, named_within)
 
 pub give_entries-requires : goal.give_entries-requires
 give_entries-requires c = record { s_len_bound = search (rules, track_entries); inside = search track_entries }

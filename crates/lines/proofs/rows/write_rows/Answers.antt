@@ -1,6 +1,6 @@
 use Prim.Native.Nat.{◌-◌}
 use borrow.Author.Rules.{rules}
-use Rattle.lines.proofs.Rowing.{rowing, rows-done, rows-ended, rows_written}
+use Rattle.lines.proofs.Rowing.{rowing, rows_done, rows_ended, rows_written}
 use Rattle.lines.proofs.rows.write_rows.Goals as goal
 
 pub loop-i-init : goal.loop-i-init
@@ -46,4 +46,4 @@ pub shape_of-out : goal.shape_of-out
 shape_of-out c = search (rules, rowing)
 
 pub returns : goal.returns
-returns c = record { value = (search (rules, rows-done), search (rules, rows-ended)); out_after = search (rules, rows_written) }
+returns c = record { value = (search (rules, rows_done), search (rules, rows_ended)); out_after = search (rules, rows_written) }

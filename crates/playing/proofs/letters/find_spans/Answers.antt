@@ -7,7 +7,7 @@ use native.Mathlib.Omega.{arith}
 use Rattle.model.specs.Bytes.{◌!◌}
 use Rattle.model.specs.Item.{items_of}
 use Rattle.playing.specs.Performing.{entries_said, no_span}
-use Rattle.playing.proofs.Tables.{Known, known-before, known-now}
+use Rattle.playing.proofs.Tables.{Known, known_before, known_now}
 use Rattle.playing.proofs.LetterSpans.{PassedBy, passage_goes_on, find_starts, finding}
 use Rattle.playing.proofs.letters.find_spans.Goals as goal
 use Rattle.playing.proofs.letters.find_spans.Goals.{then-not-known-slot+else-passage, else-not-known-slot}
@@ -60,9 +60,9 @@ loop-i-preserved c =
         (c.args.letters.now ! c.loop-i.i) c.loop-i.known c.if-not-known-slot.spans c.if-not-known-slot.known =
         elim c.if-not-known-slot.branch [
           then-not-known-slot+else-passage w ↦
-            known-now no_span _ _ _ _ inv.table _ _ _ (inv.bytes _)
+            known_now no_span _ _ _ _ inv.table _ _ _ (inv.bytes _)
             (passage_goes_on _ _ _ _ _ w.passage_of_letter-passage.ensures w.if-passage.false) w.spans-is w.known-is
-        | else-not-known-slot w ↦ known-before no_span _ _ _ _ inv.table _ _ (ap not w.if-not-known-slot.false) w.spans-is w.known-is
+        | else-not-known-slot w ↦ known_before no_span _ _ _ _ inv.table _ _ (ap not w.if-not-known-slot.false) w.spans-is w.known-is
         ] in
     search (rules, finding)
 

@@ -1,6 +1,6 @@
 -- `sections::span::span_from` meets its contract.
 use native.Mathlib.Omega.{arith}
-use Rattle.sections.proofs.Small.{stream-small}
+use Rattle.sections.proofs.Small.{stream_small}
 use Rattle.sections.proofs.Spanning.{reaching}
 use borrow.Author.Rules.{rules}
 use Rattle.sections.proofs.span.span_from.Goals as goal
@@ -16,5 +16,5 @@ returns c =
     let a = c.args in
     record {
       value = search (rules, reaching);
-      small = search (rules, reaching, stream-small a.voice a.body.now (λ k. omega (arith, c.type_inv.body k)));
+      small = search (rules, reaching, stream_small a.voice a.body.now (λ k. omega (arith, c.type_inv.body k)));
     }

@@ -1,7 +1,7 @@
 -- `put_item` answers and leaves what the definitions say, from the tests that led to each answer.
 use Rattle.model.proofs.Tests.{flag_on}
 use Rattle.model.specs.Writing.{put_memory}
-use Rattle.writing.proofs.Items.{answers, memories, all-written, has_room}
+use Rattle.writing.proofs.Items.{answers, memories, all_written, has_room}
 use borrow.Author.Rules.{rules}
 use Rattle.writing.proofs.item.put_item.Goals as goal
 
@@ -25,4 +25,4 @@ pub write_item-requires : goal.write_item-requires
 write_item-requires c = record { duration_bound = search rules; event_value = search flag_on; event_in_bounds = search has_room }
 
 pub returns : goal.returns
-returns c = record { value = search answers; out_after = search all-written }
+returns c = record { value = search answers; out_after = search all_written }

@@ -1,5 +1,5 @@
 use borrow.Author.Rules.{rules}
-use Rattle.writing.proofs.Checking.{checks, check-goes-on}
+use Rattle.writing.proofs.Checking.{checks, check_goes_on}
 use native.Mathlib.Omega.{arith}
 use mathlib.Core.Path.{refl}
 use Rattle.writing.proofs.list.check_from.Goals as goal
@@ -57,7 +57,7 @@ loop-i-smaller c = search (rules, checks)
 
 pub loop-i-preserved : goal.loop-i-preserved
 loop-i-preserved c =
-    check-goes-on _ _ _ _ refl (λ e. omega arith) _ _ c.loop-i.invariant (omega arith) _ c.item_fault-fault.ensures _ _ c.if-fault-ne0.false c.given_size.ensures.0 c.within_limit-size-in-loop-i.ensures
+    check_goes_on _ _ _ _ refl (λ e. omega arith) _ _ c.loop-i.invariant (omega arith) _ c.item_fault-fault.ensures _ _ c.if-fault-ne0.false c.given_size.ensures.0 c.within_limit-size-in-loop-i.ensures
 
 pub returns : goal.returns
 returns c = search (rules, checks)

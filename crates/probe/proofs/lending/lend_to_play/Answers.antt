@@ -1,0 +1,13 @@
+-- `lend_to_play` meets its contract.
+use Rattle.model.proofs.Parts.{front_length}
+use borrow.Author.Rules.{rules}
+use Rattle.probe.proofs.lending.lend_to_play.Goals as goal
+
+pub slice_bounds-answer_play-end : goal.slice_bounds-answer_play-end
+slice_bounds-answer_play-end c = search (rules, front_length)
+
+pub slice_bounds-answer_play-end-3 : goal.slice_bounds-answer_play-end-3
+slice_bounds-answer_play-end-3 c = search (rules, front_length)
+
+pub slice_bounds-answer_play-end-5 : goal.slice_bounds-answer_play-end-5
+slice_bounds-answer_play-end-5 c = search (rules, front_length)

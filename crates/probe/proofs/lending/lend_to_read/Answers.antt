@@ -1,0 +1,10 @@
+-- `lend_to_read` meets its contract.
+use Rattle.model.proofs.Parts.{front_length}
+use borrow.Author.Rules.{rules}
+use Rattle.probe.proofs.lending.lend_to_read.Goals as goal
+
+pub slice_bounds-answer_read-end : goal.slice_bounds-answer_read-end
+slice_bounds-answer_read-end c = search (rules, front_length)
+
+pub slice_bounds-answer_read-end-3 : goal.slice_bounds-answer_read-end-3
+slice_bounds-answer_read-end-3 c = search (rules, front_length)
