@@ -1,7 +1,7 @@
 /* The C library of Qishradul: reads SMAF files (.mmf), plays and flattens their tracks, gives a track's items and seek entries, writes a
  * whole file from such items and entries, and gives the pitch of a note and the check code of any bytes.
  *
- * `rt staticlib smaf_c` writes target/staticlib/libsmaf_c.a, for programs on x86-64 Linux. It needs nothing beside the C library's
+ * `rt lib`, in crates/smaf_c, writes crates/smaf_c/out/libsmaf_c.a, for programs on x86-64 Linux. It needs nothing beside the C library's
  * memcpy and memset. The functions keep nothing between calls and reserve no memory.
  *
  * ARGUMENTS. Lent memory is a pointer and, right behind it, a length in elements. `buffer` holds a file in its first n bytes; what it

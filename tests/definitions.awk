@@ -99,7 +99,7 @@ BEGIN {
   split("note wave program bank octaveshift modulation pitchbend volume pan expression - - - exclusive", names, " ")
   for (k in names) kind[names[k]] = k
   operation[114] = "read"; operation[112] = "play"; operation[102] = "flatten"; operation[116] = "pitch"; operation[108] = "list"
-  operation[119] = "write"; operation[98] = "writeItems"; operation[109] = "items"; operation[115] = "entries"
+  operation[119] = "write"; operation[98] = "write_items"; operation[109] = "items"; operation[115] = "entries"
   HEAD = ""; while ((getline line < HEADER) > 0) HEAD = HEAD line "\n"
   lots = 0; in_lot = 0; count = 0
   while ((op = byte()) >= 0) {
@@ -108,7 +108,7 @@ BEGIN {
     for (k = 0; k < size; k++) { case_byte[k] = byte(); buffer = buffer case_byte[k] " ∷ " }
     said = answer(operation[op])
     if (size > LARGEST) continue
-    given = operation[op] == "write" ? room " " tables() : operation[op] == "writeItems" ? room " " given_items() : n " " row " " room " " list(buffer)
+    given = operation[op] == "write" ? room " " tables() : operation[op] == "write_items" ? room " " given_items() : n " " row " " room " " list(buffer)
     cases = cases "    " operation[op] " " given " ∷\n"
     answers = answers "    " list(said) " ∷\n"
     count++

@@ -1,8 +1,8 @@
 # What the commands over a tune share: a file as their one argument, and a program that is proved and built where it is not there yet or is
 # older than its sources. A command sets `command` (its own name) and `program` (the program's), then sources this. Exit status of a
 # command: 0 where the file was accepted, 1 where it is refused or cannot be read, 2 for bad use, 3 where the program cannot be built.
-home=$(cd "$(dirname "$0")" && pwd)
-built=$home/target/bin/$program
+home=$(cd "$(dirname "${BASH_SOURCE[0]}")/.." && pwd)
+built=$home/crates/$program/out/$program
 
 refuse() { # refuse WHY STATUS
   echo "$command: $1" >&2
@@ -19,15 +19,16 @@ take_file() { # take_file WORD..: one file that can be read
 build_program() {
   local log
   command -v rt >/dev/null || refuse "there is no rt: install the Rattle kit and put its bin on PATH" 3
-  [ -x "$built" ] && [ -z "$(find "$home/crates" "$home/crates.txt" -newer "$built" -type f -print -quit)" ] && return
-  echo "$command: proving and building the program $program; from nothing that takes about five minutes" >&2
+  [ -x "$built" ] && [ -z "$(find "$home"/crates/*/{src,specs,proofs} "$home/crates.txt" -newer "$built" -type f -print -quit 2>/dev/null)" ] && return
+  echo "$command: proving and building the program $program; from nothing that takes some minutes" >&2
   log=$(mktemp) || refuse "no room for a log" 3
-  (cd "$home" && rt check "$program") 2>&1 | tee "$log" | sed -n "s/^rt: \([a-z_]* proved\)/$command: \1/p" >&2
-  tail -n 1 "$log" | grep -q '^rt: ok' || refuse "the program $program was not built; $log has what rt said" 3
+  # rt proves and builds it, and then runs it, here on nothing
+  (cd "$home/crates/$program" && rt run </dev/null 2>&1 >/dev/null) | tee "$log" | sed -un "s/^crate \([a-z_]*\): .*/$command: \1 is checked/p" >&2 || true
+  grep -q '^rt: running ' "$log" || refuse "the program $program was not built; $log has what rt said" 3
   rm -f "$log"
   touch "$built"
 }
 
 run_program() { # on standard input
-  (cd "$home" && . tools/kit.sh && kit_run "$built")
+  "$built"
 }

@@ -1,18 +1,23 @@
-"""Trials of changed code, for tools/mutate and tests/wrong_edits: a copy of the proved repository in which changes are made, and what the prover
-says of them. A function's proof rests on what other functions promise and not on how they keep it, so changes in different functions can be
-tried at once: each is judged by the facts of its own function."""
+"""Trials of changed code, for tools/mutate and tests/wrong_edits: a copy of the repository in which changes are made, and what the prover says of
+them. A function's proof rests on what other functions promise and not on how they keep it, so changes in different functions can be tried at
+once: each is judged by the facts of its own function."""
 import contextlib
+import glob
 import os
 import re
 import shutil
 import subprocess
 
 FUNCTION = re.compile(r'^( *)(?:pub )?(?:extern "C" )?fn (\w+)')
-OWN_FACT = re.compile(r'/proofs/([\w/+]+)/Proof\.antt:\d+:\d+: error: ')
-OWN_SEARCH = re.compile(r'^fn \w+::([\w:]+): .*`search` does not close')
-OWN_PROOF = re.compile(r'^fn \w+::([\w:]+): proved$', re.M)
-MISTAKE = re.compile(r'(crates/\w+/src/\w+\.rt):(\d+):\d+: error\[')
-OTHER_SHAPE = 'can be named from here', 'was not admitted', 'this pattern needs', 'not in scope', 'has no field', 'expected type `tie.Need-'
+CLAUSE = re.compile(r'^ +(?:requires|ensures|decreases|where)\b')
+OWN_FACT = re.compile(r'(?:\./)?proofs/([\w/+]+)/(?:Answers|Invariants|Proof)\.antt:\d+:\d+: error: ')
+LEMMA = re.compile(r'(?:\./)?(proofs/[\w/+]+\.antt):\d+:\d+: error: ')
+OPEN_GOAL = re.compile(r'note: src/\w+\.rt:\d+:\d+: it is not proved that ')
+OF_FUNCTION = re.compile(r'fn \w+::([\w:]+): (.*)')
+MISTAKE = re.compile(r'(?:\./)?(src/\w+\.rt):(\d+):\d+: error\[')
+OTHER_SHAPE = ('can be named from here', 'has no field', 'is not in scope', 'was not admitted', 'was not checked', 'were not checked', 'cannot be read',
+               'this pattern needs', 'write the clause', 'no clause covers')
+LIMIT = 1800  # seconds
 
 
 def functions(lines):
@@ -21,9 +26,10 @@ def functions(lines):
     while number < len(lines):
         found = FUNCTION.match(lines[number])
         if found:
-            start = number
-            while not lines[start].endswith('{') or re.match(r' +(requires|ensures)', lines[start]):
+            start, has_clauses = number, False
+            while lines[start] != found.group(1) + '{' and (has_clauses or not lines[start].endswith('{')):
                 start += 1
+                has_clauses = has_clauses or bool(CLAUSE.match(lines[start]))
             end = start + 1
             while lines[end] != found.group(1) + '}':
                 end += 1
@@ -75,23 +81,46 @@ def rounds(trials):
     return made
 
 
+class NotProved(Exception):
+    """A crate that is not proved as it stands, so that a trial of it would say nothing."""
+
+
 class Room:
-    """A copy of the repository, with what is proved already."""
+    """A copy of the repository's sources. What other copies on this machine have proved already rt takes over by itself."""
 
     def __init__(self, folder):
-        self.folder = folder
-        for name in ('crates', 'target'):
-            shutil.copytree(name, f'{folder}/{name}')
+        self.folder, self.begun = folder, set()
+        for part in glob.glob('crates/*/*/'):
+            if part.split('/')[2] in ('src', 'specs', 'proofs'):
+                shutil.copytree(part, f'{folder}/{part}')
         shutil.copy('crates.txt', folder)
 
-    def rt(self, *words):
-        run = subprocess.run(['rt', *words], cwd=self.folder, capture_output=True, text=True, env={**os.environ, 'RT_JOBS': '1', 'RT_CUT': '300'})
-        return run.stdout + run.stderr
+    def rt(self, crate, *words):
+        """What rt says, in a crate's folder."""
+        try:
+            run = subprocess.run(['rt', *words], cwd=f'{self.folder}/crates/{crate}', stdin=subprocess.DEVNULL, stdout=subprocess.PIPE,
+                                 stderr=subprocess.STDOUT, text=True, errors='replace', timeout=LIMIT)
+        except subprocess.TimeoutExpired:
+            return f'rt {" ".join(words)} had not ended after {LIMIT} seconds'
+        return run.stdout
+
+    def begin(self, crate):
+        """Has the next check begin with what one of the crate as it stands proved. A check replaces such a file, and changes none, so a link will do."""
+        kept, first = (f'{self.folder}/crates/{crate}/out/{name}' for name in ('incremental', 'first'))
+        if crate not in self.begun:
+            said = self.rt(crate, 'check', '--jobs', '1')
+            if not proved(said):
+                raise NotProved(f'{crate} is not proved as it stands:\n{said[-3000:]}')
+            os.rename(kept, first)
+            self.begun.add(crate)
+        shutil.rmtree(kept, ignore_errors=True)
+        shutil.copytree(first, kept, copy_function=lambda one, other: os.link(one, other) if one.endswith('.oantt') else shutil.copy2(one, other))
 
     def check(self, trials):
         """What the check of a crate says, with all of some changes made."""
+        self.begin(trials[0].crate)
         with self.changed(trials):
-            return self.rt('dev', trials[0].crate)
+            return self.rt(trials[0].crate, 'check', '--jobs', '1')
 
     @contextlib.contextmanager
     def changed(self, trials):
@@ -120,27 +149,32 @@ def not_built(said):
     return 'error[' in said
 
 
-def mistakes(said):
+def mistakes(crate, said):
     """The places that the compiler complains of: path and number of the line."""
-    return [(path, int(line) - 1) for path, line in MISTAKE.findall(said)]
+    return [(f'crates/{crate}/{path}', int(line) - 1) for path, line in MISTAKE.findall(said)]
 
 
 def proved(said):
-    return 'logic=proved' in said
+    return re.search(r'^logic=proved ', said, re.M) is not None
 
 
 def proved_functions(said):
-    return {full_name(name.split('::')) for name in OWN_PROOF.findall(said)}
+    return {full_name(name.split('::')) for name, what in OF_FUNCTION.findall(said) if what == 'proved'}
 
 
 def failing_facts(said):
-    """The functions in which a fact does not hold, each with the first line that says so; not those whose proof only does not fit, or that only rest on
-    something that was not proved."""
-    found = {}
+    """The functions in which a fact does not hold, each with the first line that says so, and the lemmas; not those whose proof only does not fit, or
+    that only rest on something that was not proved. Goals that a proof says nothing of are told before the line of their function."""
+    found, open_goal = {}, None
     for line in said.split('\n'):
-        own, search = OWN_FACT.search(line), OWN_SEARCH.match(line)
-        if own and not any(words in line for words in OTHER_SHAPE):
-            found.setdefault(full_name(own.group(1).split('/')), line)
-        elif search:
-            found.setdefault(full_name(search.group(1).split('::')), line)
+        own, lemma, function = OWN_FACT.match(line), LEMMA.match(line), OF_FUNCTION.match(line)
+        if own or lemma:
+            if not any(words in line for words in OTHER_SHAPE):
+                found.setdefault(full_name(own.group(1).split('/')) if own else lemma.group(1), line)
+        elif OPEN_GOAL.match(line):
+            open_goal = open_goal or line
+        elif function:
+            if open_goal or '`search` did not prove' in function.group(2):
+                found.setdefault(full_name(function.group(1).split('::')), open_goal or line)
+            open_goal = None
     return found
