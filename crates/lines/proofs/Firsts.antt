@@ -13,7 +13,7 @@ use Rattle.model.specs.Words.{Checked, Checked.fine, each}
 use Rattle.model.specs.Item.{is_fine}
 use Rattle.model.specs.TimeBase.{milliseconds}
 use Rattle.model.specs.Chunk.{Chunk, read_chunk, chunk_step}
-use Rattle.model.specs.Track.{Track, voice_of}
+use Rattle.model.specs.Track.{voice_of}
 use Rattle.model.specs.File.{File, Top, Top.leaf, Top.readable, top_of, contents_of}
 use Rattle.model.specs.declared.ReadChunk.{ReadChunk}
 use Rattle.model.specs.declared.ReadChunk.TheVariants as chunk

@@ -13,7 +13,7 @@ use Rattle.model.specs.Bytes.{number}
 use Rattle.model.specs.Item.{is_fine, found, check_answer}
 use Rattle.model.specs.Chunk.{Chunk, chunk_list}
 use Rattle.model.specs.Track.{is_allowed}
-use Rattle.model.specs.File.{File, Top, frame_of, top_of, contents_of, row_in, parts_of, rows_from, rows_of}
+use Rattle.model.specs.File.{Top, frame_of, top_of, contents_of, row_in, parts_of, rows_from, rows_of}
 use Rattle.model.specs.declared.ListOf.TheVariants as list
 use Rattle.model.specs.declared.Check.{Check}
 use Rattle.model.specs.declared.Check.TheVariants as check

@@ -1,5 +1,4 @@
 use borrow.Author.Rules.{rules}
-use Prim.Native.Nat.{◌-◌}
 use Rattle.chunks.proofs.Lists.{listing}
 use Rattle.chunks.proofs.list.check_list.Goals as goal
 

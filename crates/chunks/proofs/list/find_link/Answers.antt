@@ -1,5 +1,4 @@
 use borrow.Author.Rules.{rules}
-use Prim.Native.Nat.{◌-◌}
 use Rattle.chunks.proofs.Trees.{descending}
 use Rattle.chunks.proofs.list.find_link.Goals as goal
 

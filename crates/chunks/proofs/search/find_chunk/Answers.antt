@@ -1,5 +1,4 @@
 use borrow.Author.Rules.{rules}
-use Prim.Native.Nat.{◌-◌}
 use Rattle.chunks.proofs.Searches.{finding, remaining}
 use Rattle.chunks.proofs.search.find_chunk.Goals as goal
 

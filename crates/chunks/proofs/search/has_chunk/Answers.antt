@@ -1,5 +1,4 @@
 use borrow.Author.Rules.{rules}
-use Prim.Native.Nat.{◌-◌}
 use Rattle.chunks.proofs.Searches.{having, remaining}
 use Rattle.chunks.proofs.search.has_chunk.Goals as goal
 

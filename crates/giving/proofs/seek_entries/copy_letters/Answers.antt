@@ -1,5 +1,4 @@
 use borrow.Author.Rules.{rules}
-use Prim.Native.Nat.{◌-◌}
 use Rattle.giving.proofs.EntriesGiven.{copies}
 use Rattle.giving.proofs.seek_entries.copy_letters.Goals as goal
 

@@ -1,5 +1,4 @@
 use borrow.Author.Rules.{rules}
-use Prim.Native.Nat.{◌-◌}
 use Rattle.giving.proofs.Seeking.{entries_counted}
 use Rattle.giving.proofs.seek_entries.count_entries.Goals as goal
 

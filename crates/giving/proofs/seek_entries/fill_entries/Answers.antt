@@ -1,5 +1,4 @@
 use borrow.Author.Rules.{rules}
-use Prim.Native.Nat.{◌-◌}
 use Rattle.giving.proofs.Seeking.{entries_stored}
 use Rattle.giving.proofs.seek_entries.fill_entries.Goals as goal
 

@@ -1,5 +1,4 @@
 use borrow.Author.Rules.{rules}
-use Prim.Native.Nat.{◌-◌}
 use native.Mathlib.Omega.{arith}
 use Rattle.giving.proofs.ItemsGiven.{give_starts, gives}
 use Rattle.giving.proofs.sequence.fill_items.Goals as goal

@@ -1,5 +1,4 @@
 use borrow.Author.Rules.{rules}
-use Prim.Native.Nat.{◌-◌}
 use Rattle.items.proofs.Reading.{reading}
 use Rattle.items.proofs.body.read_body.Goals as goal
 

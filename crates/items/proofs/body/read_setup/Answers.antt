@@ -1,5 +1,4 @@
 use borrow.Author.Rules.{rules}
-use Prim.Native.Nat.{◌-◌}
 use Rattle.items.proofs.Setup.{setting_up}
 use Rattle.items.proofs.body.read_setup.Goals as goal
 

@@ -1,5 +1,4 @@
 use borrow.Author.Rules.{rules}
-use Prim.Native.Nat.{◌-◌}
 use Rattle.items.proofs.Addresses.{reaching}
 use Rattle.items.proofs.reach.is_address_from.Goals as goal
 

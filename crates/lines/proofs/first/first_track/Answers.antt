@@ -1,4 +1,3 @@
-use Prim.Native.Nat.{◌-◌}
 use borrow.Author.Rules.{rules}
 use Rattle.lines.proofs.Firsts.{nearing}
 use Rattle.lines.proofs.first.first_track.Goals as goal

@@ -1,4 +1,3 @@
-use Prim.Native.Nat.{◌-◌}
 use borrow.Author.Rules.{rules}
 use Rattle.lines.proofs.Rowing.{rowing, rows_done, rows_ended, rows_written}
 use Rattle.lines.proofs.rows.write_rows.Goals as goal

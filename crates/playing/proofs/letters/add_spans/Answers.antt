@@ -1,5 +1,4 @@
 use borrow.Author.Rules.{rules}
-use Prim.Native.Nat.{◌-◌}
 use Rattle.playing.proofs.LetterSpans.{add_starts, adding}
 use Rattle.playing.proofs.letters.add_spans.Goals as goal
 

@@ -1,5 +1,4 @@
 use borrow.Author.Rules.{rules}
-use Prim.Native.Nat.{◌-◌}
 use mathlib.Core.Bool.{true, not}
 use mathlib.Core.Path.{ap}
 use lib.ListN.{length}
@@ -57,13 +56,13 @@ pub loop-i-preserved : goal.loop-i-preserved
 loop-i-preserved c =
     let inv = c.loop-i.invariant in
     let known : Known no_span (PassedBy (items_of c.args.voice c.args.body.now) (length c.args.body.now) (entries_said true c.args.seek.now))
-        (c.args.letters.now ! c.loop-i.i) c.loop-i.known c.if-not-known-slot.spans c.if-not-known-slot.known =
-        elim c.if-not-known-slot.branch [
-          then-not-known-slot+else-passage w ↦
-            known_now no_span _ _ _ _ inv.table _ _ _ (inv.bytes _)
-            (passage_goes_on _ _ _ _ _ w.passage_of_letter-passage.ensures w.if-passage.false) w.spans-is w.known-is
-        | else-not-known-slot w ↦ known_before no_span _ _ _ _ inv.table _ _ (ap not w.if-not-known-slot.false) w.spans-is w.known-is
-        ] in
+    (c.args.letters.now ! c.loop-i.i) c.loop-i.known c.if-not-known-slot.spans c.if-not-known-slot.known =
+    elim c.if-not-known-slot.branch [
+      | then-not-known-slot+else-passage w ↦
+          known_now no_span _ _ _ _ inv.table _ _ _ (inv.bytes _)
+          (passage_goes_on _ _ _ _ _ w.passage_of_letter-passage.ensures w.if-passage.false) w.spans-is w.known-is
+      | else-not-known-slot w ↦ known_before no_span _ _ _ _ inv.table _ _ (ap not w.if-not-known-slot.false) w.spans-is w.known-is
+    ] in
     search (rules, finding)
 
 pub returns : goal.returns

@@ -1,5 +1,4 @@
 use borrow.Author.Rules.{rules}
-use Prim.Native.Nat.{◌-◌}
 use native.Mathlib.Omega.{arith}
 use Rattle.playing.proofs.Writing.{write_starts, writing}
 use Rattle.playing.proofs.letters.write_letters.Goals as goal

@@ -1,5 +1,4 @@
 use borrow.Author.Rules.{rules}
-use Prim.Native.Nat.{◌-◌}
 use Rattle.reading.proofs.Finding.{finding}
 use Rattle.reading.proofs.find.find_track.Goals as goal
 

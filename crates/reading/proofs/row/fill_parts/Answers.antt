@@ -1,4 +1,3 @@
-use Prim.Native.Nat.{◌-◌}
 use borrow.Author.Rules.{rules}
 use Rattle.reading.proofs.Filling.{fills}
 use Rattle.reading.proofs.row.fill_parts.Goals as goal

@@ -1,5 +1,4 @@
 use borrow.Author.Rules.{rules}
-use Prim.Native.Nat.{◌-◌}
 use Rattle.reading.proofs.AllRows.{rowing}
 use Rattle.reading.proofs.row.fill_tops.Goals as goal
 

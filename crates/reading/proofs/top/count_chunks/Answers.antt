@@ -1,5 +1,4 @@
 use borrow.Author.Rules.{rules}
-use Prim.Native.Nat.{◌-◌}
 use Rattle.reading.proofs.OneTop.{countings}
 use Rattle.reading.proofs.top.count_chunks.Goals as goal
 

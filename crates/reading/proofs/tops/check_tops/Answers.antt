@@ -1,5 +1,4 @@
 use borrow.Author.Rules.{rules}
-use Prim.Native.Nat.{◌-◌}
 use Rattle.reading.proofs.AllTops.{topping, tops_countable}
 use Rattle.reading.proofs.tops.check_tops.Goals as goal
 

@@ -1,5 +1,4 @@
 use borrow.Author.Rules.{rules}
-use Prim.Native.Nat.{◌-◌}
 use Rattle.seek.proofs.Letters.{counting}
 use Rattle.seek.proofs.entry.letters_in_front.Goals as goal
 

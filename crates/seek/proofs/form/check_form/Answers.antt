@@ -1,5 +1,4 @@
 use borrow.Author.Rules.{rules}
-use Prim.Native.Nat.{◌-◌}
 use Rattle.seek.proofs.Ordering.{forming}
 use Rattle.seek.proofs.form.check_form.Goals as goal
 

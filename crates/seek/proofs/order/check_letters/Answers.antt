@@ -1,5 +1,4 @@
 use borrow.Author.Rules.{rules}
-use Prim.Native.Nat.{◌-◌}
 use Rattle.seek.proofs.Naming.{lettering}
 use Rattle.seek.proofs.order.check_letters.Goals as goal
 

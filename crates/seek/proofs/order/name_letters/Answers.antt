@@ -1,5 +1,4 @@
 use borrow.Author.Rules.{rules}
-use Prim.Native.Nat.{◌-◌}
 use Rattle.seek.proofs.Naming.{marking}
 use Rattle.seek.proofs.order.name_letters.Goals as goal
 

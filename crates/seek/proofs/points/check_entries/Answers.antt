@@ -1,5 +1,4 @@
 use borrow.Author.Rules.{rules}
-use Prim.Native.Nat.{◌-◌}
 use Rattle.seek.proofs.Holding.{holding}
 use Rattle.seek.proofs.points.check_entries.Goals as goal
 

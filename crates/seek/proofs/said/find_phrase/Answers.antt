@@ -1,5 +1,4 @@
 use borrow.Author.Rules.{rules}
-use Prim.Native.Nat.{◌-◌}
 use Rattle.seek.proofs.Saying.{searching}
 use Rattle.seek.proofs.said.find_phrase.Goals as goal
 

@@ -1,5 +1,4 @@
 use borrow.Author.Rules.{rules}
-use Prim.Native.Nat.{◌-◌}
 use Rattle.seek.proofs.Saying.{pointing}
 use Rattle.seek.proofs.said.read_points.Goals as goal
 
