@@ -8,7 +8,7 @@ use lib.Seq.{get_or-set_same, get_or-set_other, get_or-drop}
 use native.Mathlib.Nat.{add-zero}
 use native.Mathlib.Omega.{arith}
 use borrow.Author.Tests.{eqb-true, eqb-false}
-use Rattle.model.specs.Words.{if◌then◌else◌, ◌or◌, ◌≡?◌, any, Checked, Checked.fine, Checked.refused, ◌>>◌}
+use Rattle.model.specs.Words.{when◌then◌else◌, ◌or◌, ◌≡?◌, any, Checked, Checked.fine, Checked.refused, ◌>>◌}
 use Rattle.model.specs.Bytes.{◌!◌}
 use Rattle.model.specs.Tables.{Given, first_given, once_from, given_in}
 use Rattle.model.specs.declared.Counted.{Counted}
@@ -25,7 +25,7 @@ use Rattle.arranging.proofs.Tracks.{Left, left_starts, left_no_numbers, left_no_
 unfoldable pub counted_from : List ℕ → ℕ → List Given → Checked ℕ
 counted_from before count left = do
   once_from before count left
-  if count + length left ≡? 0 then refused 7 0 else fine (count + length left)
+  when count + length left ≡? 0 then refused 7 0 else fine (count + length left)
 
 abbrev pub met_before : List ℕ → ℕ → Bool
 met_before before number = any (λ earlier. earlier ≡? number) before
@@ -51,7 +51,7 @@ module _ (numbers bytes : List ℕ) where
         left = given_in numbers bytes;
         from = left_starts numbers bytes q (clip_next bytes 0 5 q (omega arith) e) (clip_to bytes 0 5 q (omega arith) e);
         few = omega arith;
-        same = ap (λ (n : ℕ). count_answer (once_from [] 0 (given_in numbers bytes) >> (if n ≡? 0 then refused 7 0 else fine n))) all;
+        same = ap (λ (n : ℕ). count_answer (once_from [] 0 (given_in numbers bytes) >> (when n ≡? 0 then refused 7 0 else fine n))) all;
       }
 
   module _ (seen : List Bool) (count p q : ℕ) (r : Counting numbers bytes seen count p q) where
@@ -62,8 +62,8 @@ module _ (numbers bytes : List ℕ) where
     count_within = r.from.within
 
     -- no track is left
-    over : r.left ≡ [] → (z : Counted) → z ≡ (if count ≡? 0 then counted.Refused 7 0 else counted.Rows count) → z ≡ count_answer (how_many (given_in numbers bytes))
-    unfolding counted_from once_from ◌>>◌ count_answer if◌then◌else◌
+    over : r.left ≡ [] → (z : Counted) → z ≡ (when count ≡? 0 then counted.Refused 7 0 else counted.Rows count) → z ≡ count_answer (how_many (given_in numbers bytes))
+    unfolding counted_from once_from ◌>>◌ count_answer when◌then◌else◌
     over none z e =
         let all = ap (λ (l : List Given). count_answer (counted_from r.before count l)) (sym none) ∙ r.same in
         let sum : count + 0 ≡ count = add-zero count in
@@ -71,11 +71,11 @@ module _ (numbers bytes : List ℕ) where
         (λ h. e ∙ simp h (simp (sum, h) at all))
         (λ h. e ∙ simp h (simp (sum, h) at all))
 
-    pub count_no_numbers : length numbers - p < 4 → (z : Counted) → z ≡ (if count ≡? 0 then counted.Refused 7 0 else counted.Rows count)
+    pub count_no_numbers : length numbers - p < 4 → (z : Counted) → z ≡ (when count ≡? 0 then counted.Refused 7 0 else counted.Rows count)
         → z ≡ count_answer (how_many (given_in numbers bytes))
     count_no_numbers h = over (left_no_numbers numbers bytes p q r.left r.from h)
 
-    pub count_no_bytes : length bytes - q < 7 → (z : Counted) → z ≡ (if count ≡? 0 then counted.Refused 7 0 else counted.Rows count)
+    pub count_no_bytes : length bytes - q < 7 → (z : Counted) → z ≡ (when count ≡? 0 then counted.Refused 7 0 else counted.Rows count)
         → z ≡ count_answer (how_many (given_in numbers bytes))
     count_no_bytes h = over (left_no_bytes numbers bytes p q r.left r.from h)
 
@@ -96,7 +96,7 @@ module _ (numbers bytes : List ℕ) where
       whole = ap (λ (l : List Given). count_answer (counted_from r.before count l)) (sym next.1) ∙ r.same
 
       again : get_or seen slot false ≡ true → counted.Refused 6 count ≡ count_answer (how_many (given_in numbers bytes))
-      unfolding counted_from once_from ◌>>◌ count_answer if◌then◌else◌
+      unfolding counted_from once_from ◌>>◌ count_answer when◌then◌else◌
       again h = let twice = met ∙ h in simp twice at whole
 
       pub count_nears : length numbers - parts.numbers < length numbers - p

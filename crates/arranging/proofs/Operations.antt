@@ -6,7 +6,7 @@ use mathlib.Core.Path.{◌≡◌, refl, sym, ◌∙◌, ap}
 use lib.ListN.{length, take}
 use native.Mathlib.Omega.{arith}
 use borrow.Author.Tests.{eqb-false}
-use Rattle.model.specs.Words.{if◌then◌else◌, ◌<?◌, ◌≡?◌, Checked, Checked.fine, Checked.refused, passed, ◌>>=◌, ◌>>◌}
+use Rattle.model.specs.Words.{when◌then◌else◌, ◌<?◌, ◌≡?◌, Checked, Checked.fine, Checked.refused, passed, ◌>>=◌, ◌>>◌}
 use Rattle.model.specs.ChunkBytes.{file_with}
 use Rattle.model.specs.Item.{is_fine}
 use Rattle.model.specs.Arrangement.{ScoreTrack, file_bytes}
@@ -54,14 +54,14 @@ module _ (numbers bytes : List ℕ) (room : ℕ) where
 
   -- with the tracks at hand, what is left goes by their bytes alone
   sized_so : (tracks : List ScoreTrack) → tracks_from 0 given ≡ fine tracks
-      → ((if 16 <? length tracks then refused 24 0 else passed) >> within_room room (file_bytes (record { contents = take 5 bytes; tracks = tracks })))
+      → ((when 16 <? length tracks then refused 24 0 else passed) >> within_room room (file_bytes (record { contents = take 5 bytes; tracks = tracks })))
       ≡ sized_of numbers bytes room
   unfolding sized_of file_bytes file_with whole_bytes bare_bytes tracks_given_bytes
   sized_so tracks e = rw (tracks_many 0 given tracks e, e) refl
 
   -- 6 and 7, and then the rest
   staged : write_of numbers bytes room ≡ (how_many given >>= λ count. behind numbers bytes room)
-  unfolding write_of arrangement_of how_many behind ◌>>=◌ ◌>>◌ if◌then◌else◌
+  unfolding write_of arrangement_of how_many behind ◌>>=◌ ◌>>◌ when◌then◌else◌
   staged = go (once_from [] 0 given) refl (tracks_from 0 given) refl
     where
       go : (o : Checked (Unit {0})) → once_from [] 0 given ≡ o → (p : Checked (List ScoreTrack)) → tracks_from 0 given ≡ p

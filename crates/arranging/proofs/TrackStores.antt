@@ -7,7 +7,7 @@ use lib.ListN.{length, length-append, drop}
 use lib.Seq.{sets, get_or-take, get_or-drop}
 use native.Mathlib.Omega.{arith}
 use borrow.Author.Tests.{eq-eqb, ne_eqb}
-use Rattle.model.specs.Words.{if◌then◌else◌, ◌and◌, ◌≡?◌, Placed, Checked.fine}
+use Rattle.model.specs.Words.{when◌then◌else◌, ◌and◌, ◌≡?◌, Placed, Checked.fine}
 use Rattle.model.specs.Bytes.{◌!◌, part, MTR, Mtsq}
 use Rattle.model.specs.ChunkBytes.{number_bytes, chunk_bytes}
 use Rattle.model.specs.Item.{Item, is_fine, found}
@@ -41,11 +41,11 @@ same_fixed head = rw (head_byte head 1 (omega arith), head_byte head 2 (omega ar
 -- the fixed bytes
 module _ (head : List ℕ) (z : Bool) where
   pub fixed_other : (head ! 1 ≡ 0 → ⊥) → z ≡ false → z ≡ is_fine (fixed_given (part head 1 6))
-  unfolding fixed_given is_fine if◌then◌else◌ ◌and◌
+  unfolding fixed_given is_fine when◌then◌else◌ ◌and◌
   fixed_other h e = let there = head_byte head 0 (omega arith) in rw there (simp ne_eqb e)
 
   pub fixed_so : head ! 1 ≡ 0 → z ≡ fixed_fits Score head 1 → z ≡ is_fine (fixed_given (part head 1 6))
-  unfolding fixed_given if◌then◌else◌ is_fine ◌and◌
+  unfolding fixed_given when◌then◌else◌ is_fine ◌and◌
   fixed_so h e =
       let first = eq-eqb (part head 1 6 ! 0) 0 (head_byte head 0 (omega arith) ∙ h) in
       by_test (fixed_fits Score head 1)

@@ -6,7 +6,7 @@ use lib.ListN.{length, take, length-append, length-take}
 use lib.Seq.{sets, sets-eq, take_at}
 use native.Mathlib.Omega.{arith}
 use borrow.Author.Tests.{lt-ltb, le-ltb}
-use Rattle.model.specs.Words.{if◌then◌else◌, ◌or◌, Checked, Checked.fine, Checked.refused, ◌>>◌}
+use Rattle.model.specs.Words.{when◌then◌else◌, ◌or◌, Checked, Checked.fine, Checked.refused, ◌>>◌}
 use Rattle.model.specs.Bytes.{part, MMMD, CNTI}
 use Rattle.model.specs.CheckCode.{check_code}
 use Rattle.model.specs.ChunkBytes.{number_bytes, chunk_bytes, with_check_code}
@@ -134,15 +134,15 @@ module _ (numbers bytes : List ℕ) (long : 5 ≤ length bytes) (count size : �
     over_kept = rw over
 
   too_many : 16 < count → outcome ≡ refused 24 0
-  unfolding sized_of if◌then◌else◌ ◌>>◌
+  unfolding sized_of when◌then◌else◌ ◌>>◌
   too_many h = let many : 16 < length (given_in numbers bytes) = omega arith in simp (lt-ltb 16 _ many)
 
   within : count ≤ 16 → outcome ≡ within_room (length l) (whole_bytes (take 5 bytes) tracks)
-  unfolding sized_of if◌then◌else◌ ◌>>◌
+  unfolding sized_of when◌then◌else◌ ◌>>◌
   within h = let few : length (given_in numbers bytes) ≤ 16 = omega arith in simp (le-ltb 16 _ few)
 
   too_long : count ≤ 16 → 65513 < size → outcome ≡ refused 24 0
-  unfolding within_room if◌then◌else◌ ◌or◌
+  unfolding within_room when◌then◌else◌ ◌or◌
   too_long few h =
       let over = limited_over (length tracks) 65513 (omega arith) (omega (arith, sized)) in
       let past : 65536 < length (whole_bytes (take 5 bytes) tracks) = omega (arith, whole_length bytes tracks long) in
@@ -152,7 +152,7 @@ module _ (numbers bytes : List ℕ) (long : 5 ≤ length bytes) (count size : �
   exact h = sized ∙ limited_exact (length tracks) (omega (arith, sized))
 
   no_room : count ≤ 16 → size ≤ 65513 → length l < size + 23 → outcome ≡ refused 24 0
-  unfolding within_room if◌then◌else◌ ◌or◌
+  unfolding within_room when◌then◌else◌ ◌or◌
   no_room few small h =
       let e = exact small in
       let n = whole_length bytes tracks long in
@@ -183,7 +183,7 @@ module _ (numbers bytes : List ℕ) (long : 5 ≤ length bytes) (count size : �
     whole_sized = exact small
 
     is_fine_lem : outcome ≡ fine (whole_bytes (take 5 bytes) tracks)
-    unfolding within_room if◌then◌else◌ ◌or◌
+    unfolding within_room when◌then◌else◌ ◌or◌
     is_fine_lem =
         let e = exact small in
         let n = whole_length bytes tracks long in

@@ -1,6 +1,6 @@
 -- The stages of a write: which tracks there are (6, 7), what one comes to, what all of them do, and how many bytes that takes.
 use Rattle.std.specs.Prelude.{ℕ, ◌+◌, List, [], ◌++◌, length, take}
-use Rattle.model.specs.Words.{if◌then◌else◌, ◌<?◌, ◌≡?◌, Checked, Checked.fine, Checked.refused, passed, ◌>>◌}
+use Rattle.model.specs.Words.{when◌then◌else◌, ◌<?◌, ◌≡?◌, Checked, Checked.fine, Checked.refused, passed, ◌>>◌}
 use Rattle.model.specs.Bytes.{◌!◌, part, MMMD, CNTI, Mtsq}
 use Rattle.model.specs.Item.{found}
 use Rattle.model.specs.Track.{point_width}
@@ -22,7 +22,7 @@ use Rattle.entries.specs.Rows.{entries_in}
 unfoldable pub how_many : List Given → Checked ℕ
 how_many given = do
   once_from [] 0 given
-  if length given ≡? 0 then refused 7 0 else fine (length given)
+  when length given ≡? 0 then refused 7 0 else fine (length given)
 
 unfoldable pub count_answer : Checked ℕ → Counted
 count_answer (fine count) = counted.Rows count
@@ -68,5 +68,5 @@ whole_bytes contents tracks = with_check_code (bare_bytes contents tracks)
 -- what is left of a write where all tracks can be written
 unfoldable pub sized_of : List ℕ → List ℕ → ℕ → Checked (List ℕ)
 sized_of numbers bytes room = do
-  if 16 <? length (given_in numbers bytes) then refused 24 0 else passed
+  when 16 <? length (given_in numbers bytes) then refused 24 0 else passed
   within_room room (whole_bytes (take 5 bytes) (tracks_given_bytes (tracks_from 0 (given_in numbers bytes))))

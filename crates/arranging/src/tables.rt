@@ -1,6 +1,6 @@
 // The two tables track by track.
 ghost use Rattle.std.specs.Prelude.{◌≡◌, ◌+◌, ◌≤◌, ◌<◌, min, length};
-ghost use Rattle.model.specs.Words.{if◌then◌else◌, ◌≡?◌};
+ghost use Rattle.model.specs.Words.{when◌then◌else◌, ◌≡?◌};
 ghost use Rattle.model.specs.Tables.{given_in};
 ghost use Rattle.arranging.specs.Apart.{Apart};
 ghost use Rattle.arranging.specs.Stages.{how_many, count_answer};
@@ -56,7 +56,7 @@ pub fn find_stretches(numbers: &[u32], p: usize, bytes: &[u8], q: usize) -> Stre
 }
 
 fn counted(count: usize) -> Counted
-    ensures { result ≡ (if count ≡? 0 then Counted.Refused 7 0 else Counted.Rows count) }
+    ensures { result ≡ (when count ≡? 0 then Counted.Refused 7 0 else Counted.Rows count) }
 {
     if count == 0 {
         return Counted::Refused {

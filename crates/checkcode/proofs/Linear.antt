@@ -10,7 +10,7 @@ use lib.Arith.{bin_ind}
 use lib.Bits.{bit_xor, differ, xor_step, xor_shr, xor_mod, xor_comm, xor_lt, xor_block, xor_zero_r}
 use lib.ListN.{replicate}
 use borrow.Author.Tests.{lt-ltb, le-ltb}
-use Rattle.model.specs.Words.{if◌then◌else◌}
+use Rattle.model.specs.Words.{when◌then◌else◌}
 use Rattle.model.specs.CheckCode.{bit_step, byte_step, remainder_from}
 
 digit : (x y z : ℕ) → x < 2 → y < 2 → z < 2 → differ (differ x y) z ≡ differ x (differ y z)
@@ -60,11 +60,11 @@ moved_up a b =
     sym (add-zero (bit_xor a b * 256)) ∙ sym (xor_block 8 a b 0 0 (omega arith) (omega arith)) ∙ ap₂ bit_xor (add-zero (a * 256)) (add-zero (b * 256))
 
 pub low_bit_step : (r : ℕ) → r < 0x8000 → bit_step r ≡ r * 2
-unfolding bit_step if◌then◌else◌
+unfolding bit_step when◌then◌else◌
 low_bit_step r h = rw (lt-ltb r 0x8000 h)
 
 high_bit_step : (r : ℕ) → 0x8000 ≤ r → bit_step r ≡ bit_xor (r * 2) 0x11021
-unfolding bit_step if◌then◌else◌
+unfolding bit_step when◌then◌else◌
 high_bit_step r h = rw (le-ltb r 0x8000 h)
 
 -- with no choice: the highest bit says how often the divisor is subtracted

@@ -9,7 +9,7 @@ use native.Mathlib.Omega.{arith}
 use lib.Bits.{bit_xor, xor_shifted}
 use lib.ListN.{length, length-append, length-map, get_or-append}
 use lib.Seq.{get_or-append-add}
-use Rattle.model.specs.Words.{if◌then◌else◌}
+use Rattle.model.specs.Words.{when◌then◌else◌}
 use Rattle.model.specs.Bytes.{◌!◌}
 use Rattle.model.specs.CheckCode.{bit_step, byte_step, remainder_from}
 use Rattle.checkcode.specs.Remainders.{Remainders}
@@ -26,7 +26,7 @@ tables_from follow zero = []
 tables_from follow (suc more) = grown follow 8 ++ tables_from (suc follow) more
 
 nothing_left : (n : ℕ) → remainder_from 0 (zeros n) ≡ 0
-unfolding remainder_from byte_step bit_step if◌then◌else◌
+unfolding remainder_from byte_step bit_step when◌then◌else◌
 nothing_left zero = refl
 nothing_left (suc n) = nothing_left n
 
@@ -42,7 +42,7 @@ grown_length follow (suc bits) =
     length-append (grown follow bits) _ ∙ omega (arith, length-map (grown follow bits) (bit_xor (left (2 ^ bits) follow)), grown_length follow bits, pow-suc 2 bits)
 
 grown_at : (follow bits byte : ℕ) → 2 ^ bits ≤ 256 → byte < 2 ^ bits → grown follow bits ! byte ≡ left byte follow
-unfolding grown remainder_from byte_step bit_step if◌then◌else◌
+unfolding grown remainder_from byte_step bit_step when◌then◌else◌
 grown_at follow zero zero h k = sym (nothing_left follow)
 grown_at follow zero (suc byte) h k = absurd (omega arith)
 grown_at follow (suc bits) byte h k =

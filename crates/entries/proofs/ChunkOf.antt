@@ -5,7 +5,7 @@ use mathlib.Core.Bool.{Bool, true}
 use mathlib.Core.Path.{◌≡◌, refl, ◌∙◌, ap, ap₂}
 use lib.ListN.{length}
 use native.Mathlib.Omega.{arith}
-use Rattle.model.specs.Words.{if◌then◌else◌}
+use Rattle.model.specs.Words.{when◌then◌else◌}
 use Rattle.model.specs.Item.{is_fine, found}
 use Rattle.model.specs.Seek.{Entry, Entry.start, Entry.stop, Entry.phrase, Entry.order}
 use Rattle.model.specs.Track.{point_width}
@@ -19,7 +19,7 @@ use Rattle.entries.proofs.GivenEntries.{RowsAre, given_entries}
 
 module _ (phrases : Bool) (letters : List ℕ) where
   row_data : (row : Row) (entry : Entry) → RowIs letters row entry → data_of phrases letters row ≡ data_bytes (point_width phrases) entry
-  unfolding data_of data_bytes if◌then◌else◌
+  unfolding data_of data_bytes when◌then◌else◌
   row_data row (start value) is = rw (is.0, is.1)
   row_data row (stop value) is = rw (is.0, is.1)
   row_data row (phrase letter from to) is = rw (is.0, is.2, is.3)

@@ -5,7 +5,7 @@ use mathlib.Core.Bool.{true, false}
 use mathlib.Core.Path.{◌≡◌, sym, ◌∙◌, ap}
 use lib.ListN.{length}
 use borrow.Author.Tests.{eq-eqb, ne_eqb}
-use Rattle.model.specs.Words.{if◌then◌else◌, ◌or◌, ◌≡?◌}
+use Rattle.model.specs.Words.{when◌then◌else◌, ◌or◌, ◌≡?◌}
 use Rattle.model.proofs.Tests.{if_true, if_false}
 use Rattle.entries.specs.declared.row.Row.{Row}
 use Rattle.entries.specs.Rows.{row_at, rows_in}
@@ -32,7 +32,7 @@ module _ (numbers : List ℕ) (count : ℕ) where
       starting_ends past = ap started_in (sym (left_over numbers count i past)) ∙ r.same
 
       module _ (row : Row) (here : i < count) (is : row ≡ row_at numbers i) where
-        splits : (if row.kind ≡? 0 then row.from else started_in (left numbers count (i + 1))) ≡ started_in (rows_in numbers)
+        splits : (when row.kind ≡? 0 then row.from else started_in (left numbers count (i + 1))) ≡ started_in (rows_in numbers)
         unfolding started_in
         splits =
             ap (λ (a : Row). started_in (a ∷ left numbers count (i + 1))) is ∙ ap started_in (sym (left_next numbers count i here)) ∙ r.same

@@ -5,7 +5,7 @@ use mathlib.Core.Bool.{Bool, true, false, not}
 use mathlib.Core.Path.{◌≡◌, refl, sym, ◌∙◌, ap}
 use lib.ListN.{length}
 use borrow.Author.Tests.{lt-ltb, le-ltb, ne_eqb}
-use Rattle.model.specs.Words.{if◌then◌else◌, ◌and◌, ◌<?◌, ◌≤?◌, ◌≡?◌}
+use Rattle.model.specs.Words.{when◌then◌else◌, ◌and◌, ◌<?◌, ◌≤?◌, ◌≡?◌}
 use Rattle.model.specs.Points.{is_span}
 use Rattle.model.proofs.Tests.{first_false, flag_on, flag_off, not_on, not_off}
 use Rattle.entries.specs.declared.address.Cursor.{Cursor}
@@ -87,29 +87,29 @@ module _ (phrases : Bool) (source items : List ℕ) (started listed : ℕ) (row 
 
   pub says_order : (cursor : Cursor) → Front source items cursor → row.kind ≡ 3
       → Says source items (record { holds = true; front = cursor }) (row_holds phrases items started listed row)
-  unfolding row_holds if◌then◌else◌
+  unfolding row_holds when◌then◌else◌
   says_order cursor front k = says_plain _ front (simp k)
 
   pub says_phrase : (judged : Judged) → row.kind ≡ 2 → Says source items judged (is_span (is_place items) row.from row.to)
       → Says source items judged (row_holds phrases items started listed row)
-  unfolding row_holds if◌then◌else◌
+  unfolding row_holds when◌then◌else◌
   says_phrase judged k says = record { front = says.front; so = λ all. simp k (says.so all) }
 
   module _ (listing : row.kind ≡ 3 → ⊥) (phrase : row.kind ≡ 2 → ⊥) (early : Bool) (is : early ≡ ((row.kind ≡? 1) and (row.from <? started))) where
     pub says_early : (cursor : Cursor) → Front source items cursor → early ≡ true
         → Says source items (record { holds = false; front = cursor }) (row_holds phrases items started listed row)
-    unfolding row_holds if◌then◌else◌
+    unfolding row_holds when◌then◌else◌
     says_early cursor front h = says_plain _ front (let e = sym is ∙ h in simp (ne_eqb, e))
 
     module _ (late : early ≡ false) where
       pub says_position : (cursor : Cursor) (holds : Bool) → Front source items cursor → phrases ≡ true → holds ≡ (row.from ≤? listed)
           → Says source items (record { holds = holds; front = cursor }) (row_holds phrases items started listed row)
-      unfolding row_holds is_point if◌then◌else◌
+      unfolding row_holds is_point when◌then◌else◌
       says_position cursor holds front p h = says_plain _ front (let e = sym is ∙ late in simp (ne_eqb, e, p) h)
 
       pub says_address : (judged : Judged) → phrases ≡ false → Says source items judged (is_place items row.from)
           → Says source items judged (row_holds phrases items started listed row)
-      unfolding row_holds is_point if◌then◌else◌
+      unfolding row_holds is_point when◌then◌else◌
       says_address judged p says = record { front = says.front; so = λ all. let e = sym is ∙ late in simp (ne_eqb, e, p) (says.so all) }
 
 pub ruleset said_rows = (says_order, says_phrase, says_early, says_position, says_address)

@@ -5,7 +5,7 @@ use mathlib.Core.Bool.{Bool, true, false, not, false≢true}
 use mathlib.Core.Option.{Option, none, some}
 use mathlib.Core.Path.{◌≡◌, refl, sym, ◌∙◌, ap, subst}
 use lib.ListN.{length}
-use Rattle.model.specs.Words.{if◌then◌else◌, ◌and◌, ◌or◌, ◌<?◌, ◌≡?◌, is_some, ◌otherwise◌, ◌or_else◌, first_said, Placed, placed_from, Checked, Checked.fine, Checked.refused, passed, ◌>>=◌, ◌>>◌, all_pass}
+use Rattle.model.specs.Words.{when◌then◌else◌, ◌and◌, ◌or◌, ◌<?◌, ◌≡?◌, is_some, ◌otherwise◌, ◌or_else◌, first_said, Placed, placed_from, Checked, Checked.fine, Checked.refused, passed, ◌>>=◌, ◌>>◌, all_pass}
 use Rattle.model.specs.Item.{is_fine, found}
 use Rattle.model.specs.Seek.{Entry, Entry.start, Entry.stop, Entry.phrase, Entry.order, start_in, phrase_in, order_in, start_point, phrase_of, order_list}
 use Rattle.model.specs.Points.{point_holds, points_hold, is_position, letters_named, letters_hold, order_holds}
@@ -42,18 +42,18 @@ judged_again number true true one more h g = ap (λ (c : Checked (Unit {0})). c 
 judged_again number false true one more h g = ap (λ (c : Checked (Unit {0})). c >> more) h ∙ g
 judged_again number a false one more h g = (h.0, ap (λ (c : Checked (Unit {0})). c >> more) h.1)
 
-judged_if : (number place : ℕ) (b : Bool) → Verdict number b (if b then passed else refused number place)
-unfolding if◌then◌else◌
+judged_if : (number place : ℕ) (b : Bool) → Verdict number b (when b then passed else refused number place)
+unfolding when◌then◌else◌
 judged_if number place true = refl
 judged_if number place false = (place, refl)
 
-judged_fault : (number : ℕ) (b : Bool) (one : Checked (Unit {0})) → Verdict number b one → fault_in one ≡ (if b then 0 else number)
-unfolding fault_in if◌then◌else◌
+judged_fault : (number : ℕ) (b : Bool) (one : Checked (Unit {0})) → Verdict number b one → fault_in one ≡ (when b then 0 else number)
+unfolding fault_in when◌then◌else◌
 judged_fault number true one h = ap fault_in h
 judged_fault number false one h = ap fault_in h.1
 
-fault_then : (number : ℕ) (b : Bool) (one more : Checked (Unit {0})) → Verdict number b one → fault_in (one >> more) ≡ (if b then fault_in more else number)
-unfolding fault_in if◌then◌else◌ ◌>>◌
+fault_then : (number : ℕ) (b : Bool) (one more : Checked (Unit {0})) → Verdict number b one → fault_in (one >> more) ≡ (when b then fault_in more else number)
+unfolding fault_in when◌then◌else◌ ◌>>◌
 fault_then number true one more h = ap (λ (c : Checked (Unit {0})). fault_in (c >> more)) h
 fault_then number false one more h = ap (λ (c : Checked (Unit {0})). fault_in (c >> more)) h.1
 
@@ -61,7 +61,7 @@ fault_then number false one more h = ap (λ (c : Checked (Unit {0})). fault_in (
 
 module _ (size : Entry → ℕ) (letters : List ℕ) where
   started_is : (rows : List Row) (entries : List Entry) (at : ℕ) → RowsAre letters rows entries → (start_point (placed_from size at entries) otherwise 0) ≡ started_in rows
-  unfolding start_point first_said placed_from start_in started_in ◌or_else◌ ◌otherwise◌ if◌then◌else◌
+  unfolding start_point first_said placed_from start_in started_in ◌or_else◌ ◌otherwise◌ when◌then◌else◌
   started_is [] [] at are = refl
   started_is [] (entry ∷ entries) at are = absurd are
   started_is (row ∷ rows) [] at are = absurd are
@@ -71,8 +71,8 @@ module _ (size : Entry → ℕ) (letters : List ℕ) where
   started_is (row ∷ rows) (order others ∷ entries) at are = let k = are.0.0 in rw k (started_is rows entries _ are.1)
 
   listed_is : (rows : List Row) (entries : List Entry) (at : ℕ) → RowsAre letters rows entries
-      → length (order_list (placed_from size at entries) otherwise []) ≡ (if has_list rows then length letters else 0)
-  unfolding order_list first_said placed_from order_in has_list ◌or◌ ◌or_else◌ ◌otherwise◌ if◌then◌else◌
+      → length (order_list (placed_from size at entries) otherwise []) ≡ (when has_list rows then length letters else 0)
+  unfolding order_list first_said placed_from order_in has_list ◌or◌ ◌or_else◌ ◌otherwise◌ when◌then◌else◌
   listed_is [] [] at are = refl
   listed_is [] (entry ∷ entries) at are = absurd are
   listed_is (row ∷ rows) [] at are = absurd are
@@ -81,8 +81,8 @@ module _ (size : Entry → ℕ) (letters : List ℕ) where
   listed_is (row ∷ rows) (phrase letter from to ∷ entries) at are = let k = are.0.0 in rw k (listed_is rows entries _ are.1)
   listed_is (row ∷ rows) (order others ∷ entries) at are = let k = are.0.0 in rw k (ap length are.0.1)
 
-  some_if : {A : Type 0} (b : Bool) (a : A) (more : Option A) → is_some ((if b then some a else none) or_else more) ≡ (b or is_some more)
-  unfolding if◌then◌else◌ ◌or_else◌ is_some ◌or◌
+  some_if : {A : Type 0} (b : Bool) (a : A) (more : Option A) → is_some ((when b then some a else none) or_else more) ≡ (b or is_some more)
+  unfolding when◌then◌else◌ ◌or_else◌ is_some ◌or◌
   some_if true a more = refl
   some_if false a more = refl
 
@@ -104,7 +104,7 @@ module _ (size : Entry → ℕ) (letters : List ℕ) where
 
   module _ (phrases : Bool) (items : List ℕ) (started listed : ℕ) (point : ℕ → Bool) (same : (value : ℕ) → point value ≡ is_point phrases items listed value) where
     entry_holds : (row : Row) (entry : Entry) → RowIs letters row entry → point_holds (is_place items) point started entry ≡ row_holds phrases items started listed row
-    unfolding point_holds row_holds if◌then◌else◌ ◌and◌
+    unfolding point_holds row_holds when◌then◌else◌ ◌and◌
     entry_holds row (start value) is = let k = is.0 in let v = is.1 in rw (k, v) (same row.from)
     entry_holds row (stop value) is =
         let k = is.0 in
@@ -117,14 +117,14 @@ module _ (size : Entry → ℕ) (letters : List ℕ) where
 
     points_judged : (rows : List Row) (entries : List Entry) (at : ℕ) → RowsAre letters rows entries
         → Verdict 13 (rows_hold phrases items started listed rows)
-        (all_pass (λ entry. if point_holds (is_place items) point started entry.what then passed else refused 13 entry.place) (placed_from size at entries))
+        (all_pass (λ entry. when point_holds (is_place items) point started entry.what then passed else refused 13 entry.place) (placed_from size at entries))
     unfolding all_pass placed_from rows_hold
     points_judged [] [] at are = refl
     points_judged [] (entry ∷ entries) at are = absurd are
     points_judged (row ∷ rows) [] at are = absurd are
     points_judged (row ∷ rows) (entry ∷ entries) at are =
         judged_and 13 (row_holds phrases items started listed row) (rows_hold phrases items started listed rows) _ _
-        (subst (λ (b : Bool). Verdict 13 b (if point_holds (is_place items) point started entry then passed else refused 13 at)) (entry_holds row entry are.0)
+        (subst (λ (b : Bool). Verdict 13 b (when point_holds (is_place items) point started entry then passed else refused 13 at)) (entry_holds row entry are.0)
         (judged_if 13 at (point_holds (is_place items) point started entry)))
         (points_judged rows entries _ are.1)
 
@@ -132,7 +132,7 @@ module _ (size : Entry → ℕ) (letters : List ℕ) where
 
   module _ (all : List (Placed Entry)) (rows_all : List Row) (same : (wanted : ℕ) → is_some (phrase_of wanted all) ≡ is_named wanted rows_all) where
     letters_judged : (list : List ℕ) (at : ℕ) → Verdict 14 (all_named rows_all list) (letters_named all at list)
-    unfolding letters_named all_named if◌then◌else◌ ◌and◌
+    unfolding letters_named all_named when◌then◌else◌ ◌and◌
     letters_judged [] at = refl
     letters_judged (letter ∷ list) at =
         by_test (is_named letter rows_all)
@@ -157,11 +157,11 @@ module _ (size : Entry → ℕ) (letters : List ℕ) where
 
 position : (phrases : Bool) (items : List ℕ) (listed : ℕ) (all : List (Placed Entry)) → length (order_list all otherwise []) ≡ listed → phrases ≡ true → (value : ℕ)
     → is_position all value ≡ is_point phrases items listed value
-unfolding is_position is_point if◌then◌else◌
+unfolding is_position is_point when◌then◌else◌
 position phrases items listed all e p value = rw p (ap (λ (n : ℕ). not (n <? value)) e ∙ sym (not_over listed value))
 
 address : (phrases : Bool) (items : List ℕ) (listed : ℕ) → phrases ≡ false → (value : ℕ) → is_place items value ≡ is_point phrases items listed value
-unfolding is_point if◌then◌else◌
+unfolding is_point when◌then◌else◌
 address phrases items listed p value = rw p refl
 
 -- the stage of a track's entries: without form, and with it
@@ -188,14 +188,14 @@ stage_ruled phrases letters numbers items h = go (entries_given phrases letters 
     go (fine placed) e = rw e (then_same (rules_hold phrases (is_place items) placed) placed)
     go (refused number place) e = absurd (false≢true (sym (ap is_fine e) ∙ h))
 
-list_fault : (ordered named : Bool) → ◌≡◌ {A = ℕ} (if not ordered or named then 0 else 14) (if ordered then (if named then 0 else 14) else 0)
-unfolding if◌then◌else◌ ◌or◌
+list_fault : (ordered named : Bool) → ◌≡◌ {A = ℕ} (when not ordered or named then 0 else 14) (when ordered then (when named then 0 else 14) else 0)
+unfolding when◌then◌else◌ ◌or◌
 list_fault true true = refl
 list_fault true false = refl
 list_fault false named = refl
 
 module _ (phrases : Bool) (letters numbers items : List ℕ) (given : is_fine (entries_given phrases letters numbers) ≡ true) (ordered : Bool) (listed started : ℕ)
-    (is-ordered : ordered ≡ has_list (rows_in numbers)) (is-listed : listed ≡ (if ordered then length letters else 0)) (is-started : started ≡ started_in (rows_in numbers)) where
+    (is-ordered : ordered ≡ has_list (rows_in numbers)) (is-listed : listed ≡ (when ordered then length letters else 0)) (is-started : started ≡ started_in (rows_in numbers)) where
   abbrev size : Entry → ℕ
   size entry = length (entry_bytes (point_width phrases) entry) + 1
 
@@ -222,7 +222,7 @@ module _ (phrases : Bool) (letters numbers items : List ℕ) (given : is_fine (e
       let g = given_entries phrases letters numbers given in
       ap (λ (l : List (Placed Entry)). length (order_list l otherwise [])) stand
       ∙ listed_is size letters rows g.entries 0 g.are
-      ∙ ap (λ (b : Bool). if b then length letters else 0) (sym is-ordered)
+      ∙ ap (λ (b : Bool). when b then length letters else 0) (sym is-ordered)
       ∙ sym is-listed
 
   names : (wanted : ℕ) → is_some (phrase_of wanted all) ≡ is_named wanted rows
@@ -234,7 +234,7 @@ module _ (phrases : Bool) (letters numbers items : List ℕ) (given : is_fine (e
   unfolding points_hold
   held point same =
       let g = given_entries phrases letters numbers given in
-      let rule : ℕ → Placed Entry → Checked (Unit {0}) = λ n entry. if point_holds (is_place items) point n entry.what then passed else refused 13 entry.place in
+      let rule : ℕ → Placed Entry → Checked (Unit {0}) = λ n entry. when point_holds (is_place items) point n entry.what then passed else refused 13 entry.place in
       let judged = points_judged size letters phrases items started listed point same rows g.entries 0 g.are in
       subst (λ (n : ℕ). Verdict 13 holds (all_pass (rule n) all)) (sym start_is)
       (subst (λ (l : List (Placed Entry)). Verdict 13 holds (all_pass (rule started) l)) (sym stand) judged)
@@ -246,30 +246,30 @@ module _ (phrases : Bool) (letters numbers items : List ℕ) (given : is_fine (e
       subst (λ (l : List (Placed Entry)). Verdict 14 (not (has_list rows) or all_named rows letters) (all_pass (λ entry. letters_hold all entry.place entry.what) l)) (sym stand)
       (lists_judged size letters all rows names rows g.entries 0 g.are)
 
-  in_stream : phrases ≡ false → fault_in (rules_hold phrases (is_place items) all) ≡ (if holds then 0 else 13)
+  in_stream : phrases ≡ false → fault_in (rules_hold phrases (is_place items) all) ≡ (when holds then 0 else 13)
   unfolding rules_hold
   in_stream p =
       let e : rules_hold phrases (is_place items) all ≡ points_hold (is_place items) (is_place items) all = ap (λ (b : Bool). rules_hold b (is_place items) all) p in
       ap fault_in e ∙ judged_fault 13 holds _ (held (is_place items) (address phrases items listed p))
 
-  with_phrases : phrases ≡ true → fault_in (rules_hold phrases (is_place items) all) ≡ (if holds then letters_fault ordered rows letters else 13)
+  with_phrases : phrases ≡ true → fault_in (rules_hold phrases (is_place items) all) ≡ (when holds then letters_fault ordered rows letters else 13)
   unfolding rules_hold letters_fault
   with_phrases p =
       let e : rules_hold phrases (is_place items) all ≡ (points_hold (is_place items) (is_position all) all >> order_holds all) = ap (λ (b : Bool). rules_hold b (is_place items) all) p in
-      let second : fault_in (order_holds all) ≡ (if ordered then (if all_named rows letters then 0 else 14) else 0) =
+      let second : fault_in (order_holds all) ≡ (when ordered then (when all_named rows letters then 0 else 14) else 0) =
       judged_fault 14 _ (order_holds all) in_order_lem ∙ list_fault (has_list rows) (all_named rows letters)
-      ∙ ap (λ (b : Bool). if b then (if all_named rows letters then 0 else 14) else 0) (sym is-ordered) in
+      ∙ ap (λ (b : Bool). when b then (when all_named rows letters then 0 else 14) else 0) (sym is-ordered) in
       ap fault_in e
       ∙ fault_then 13 holds _ (order_holds all) (held (is_position all) (position phrases items listed all list_is p))
-      ∙ ap (λ (n : ℕ). if holds then n else 13) second
+      ∙ ap (λ (n : ℕ). when holds then n else 13) second
 
-  ruled : fault_in (rules_hold phrases (is_place items) all) ≡ (if holds then order_fault phrases ordered rows letters else 13)
+  ruled : fault_in (rules_hold phrases (is_place items) all) ≡ (when holds then order_fault phrases ordered rows letters else 13)
   unfolding order_fault
   ruled =
-      by_test phrases (λ p. with_phrases p ∙ ap (λ (n : ℕ). if holds then n else 13) (sym (if_true phrases _ _ p)))
-      (λ p. in_stream p ∙ ap (λ (n : ℕ). if holds then n else 13) (sym (if_false phrases _ _ p)))
+      by_test phrases (λ p. with_phrases p ∙ ap (λ (n : ℕ). when holds then n else 13) (sym (if_true phrases _ _ p)))
+      (λ p. in_stream p ∙ ap (λ (n : ℕ). when holds then n else 13) (sym (if_false phrases _ _ p)))
 
-  stage_fault : fault_in (seek_stage phrases numbers items letters) ≡ (if holds then order_fault phrases ordered rows letters else 13)
+  stage_fault : fault_in (seek_stage phrases numbers items letters) ≡ (when holds then order_fault phrases ordered rows letters else 13)
   stage_fault = stage_ruled phrases letters numbers items given ∙ ruled
 
 -- TOLD WHILE THE ITEMS ARE CHECKED
@@ -278,10 +278,10 @@ module _ (phrases : Bool) (letters numbers source items : List ℕ) (formed : Bo
   tells_formless h = record { front = front_none source items; so = λ all. sym (formless phrases letters numbers items (flag_off is h)) }
 
   module _ (on : not formed ≡ false) (ordered : Bool) (listed started : ℕ) (is-ordered : ordered ≡ has_list (rows_in numbers))
-      (is-listed : listed ≡ (if ordered then length letters else 0)) (is-started : started ≡ started_in (rows_in numbers)) (judged : Judged)
+      (is-listed : listed ≡ (when ordered then length letters else 0)) (is-started : started ≡ started_in (rows_in numbers)) (judged : Judged)
       (says : Says source items judged (rows_hold phrases items started listed (rows_in numbers))) where
     fault_is : fault_in (seek_stage phrases numbers items letters)
-        ≡ (if rows_hold phrases items started listed (rows_in numbers) then order_fault phrases ordered (rows_in numbers) letters else 13)
+        ≡ (when rows_hold phrases items started listed (rows_in numbers) then order_fault phrases ordered (rows_in numbers) letters else 13)
     fault_is = stage_fault phrases letters numbers items (flag_on is on) ordered listed started is-ordered is-listed is-started
 
     pub tells_points : not judged.holds ≡ true → Tells phrases letters numbers source items (record { fault = 13; front = judged.front })

@@ -8,7 +8,7 @@ use native.Mathlib.Omega.{arith}
 use lib.ListN.{length, get_or, drop, length-set, replicate, length-replicate, drop_of_length-le}
 use lib.Seq.{drop-cons, get_or-set_same, get_or-set_other}
 use borrow.Author.Tests.{eqb-true, eqb-false}
-use Rattle.model.specs.Words.{if◌then◌else◌, ◌and◌, ◌or◌, ◌≡?◌}
+use Rattle.model.specs.Words.{when◌then◌else◌, ◌and◌, ◌or◌, ◌≡?◌}
 use Rattle.model.specs.Bytes.{◌!◌}
 use Rattle.model.proofs.Tests.{by_test, if_true, if_false, flag_on, flag_off}
 use Rattle.seek.proofs.Letters.{or_none}
@@ -36,7 +36,7 @@ marked_long flags row =
     (λ k. ap length (if_false (row.kind ≡? 2) _ flags k))
 
 named_turns : (flags : List Bool) (letter : ℕ) (row : Row) (rows : List Row) → letter < length flags → named flags letter (row ∷ rows) ≡ named (marked flags row) letter rows
-unfolding is_named marked if◌then◌else◌ ◌and◌ ◌or◌
+unfolding is_named marked when◌then◌else◌ ◌and◌ ◌or◌
 named_turns flags letter row rows long =
     by_test (row.kind ≡? 2)
     (λ k. by_test (row.letter % 256 ≡? letter)

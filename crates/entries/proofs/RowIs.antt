@@ -6,7 +6,7 @@ use mathlib.Core.Path.{◌≡◌, refl, sym, subst}
 use lib.ListN.{length}
 use native.Mathlib.Omega.{arith}
 use borrow.Author.Tests.{eqb-true, ne_eqb}
-use Rattle.model.specs.Words.{if◌then◌else◌, ◌≤?◌, ◌≡?◌, Checked, Checked.fine, Checked.refused}
+use Rattle.model.specs.Words.{when◌then◌else◌, ◌≤?◌, ◌≡?◌, Checked, Checked.fine, Checked.refused}
 use Rattle.model.specs.Seek.{Entry, Entry.start, Entry.stop, Entry.phrase, Entry.order, is_letter, letters_in_front, tag, rank}
 use Rattle.model.specs.Item.{is_fine}
 use Rattle.model.specs.SeekBytes.{largest_point, entry_given}
@@ -57,14 +57,14 @@ module _ (letters : List ℕ) (row : Row) where
   letter_byte letter h e = let m = letter_most letter h in omega arith
 
   pub row_slot : (entry : Entry) → RowIs letters row entry → slot entry ≡ slot_of row
-  unfolding slot slot_of if◌then◌else◌
+  unfolding slot slot_of when◌then◌else◌
   row_slot (start value) is = rw is.0
   row_slot (stop value) is = rw is.0
   row_slot (phrase letter from to) is = rw (is.0, letter_byte letter is.4 is.1)
   row_slot (order others) is = rw is.0
 
   pub row_tag : (entry : Entry) → RowIs letters row entry → tag entry ≡ tag_of row
-  unfolding tag tag_of if◌then◌else◌
+  unfolding tag tag_of when◌then◌else◌
   row_tag (start value) is = rw is.0
   row_tag (stop value) is = rw is.0
   row_tag (phrase letter from to) is = rw (is.0, letter_byte letter is.4 is.1)
@@ -72,30 +72,30 @@ module _ (letters : List ℕ) (row : Row) where
 
 -- whether a row is an entry, by its kind
 module _ (phrases : Bool) (letters : List ℕ) (row : Row) (z : Bool) where
-  fine_if : (b : Bool) (entry : Entry) → z ≡ b → z ≡ is_fine (if b then fine entry else refused 12 0)
-  unfolding if◌then◌else◌ is_fine
+  fine_if : (b : Bool) (entry : Entry) → z ≡ b → z ≡ is_fine (when b then fine entry else refused 12 0)
+  unfolding when◌then◌else◌ is_fine
   fine_if true entry e = e
   fine_if false entry e = e
 
   pub fits_start : row.kind ≡ 0 → z ≡ (row.from ≤? largest_point phrases) → z ≡ is_fine (row_given phrases letters row)
-  unfolding entry_given if◌then◌else◌
+  unfolding entry_given when◌then◌else◌
   fits_start k e = simp k (fine_if _ _ e)
 
   pub fits_stop : row.kind ≡ 1 → z ≡ (row.from ≤? largest_point phrases) → z ≡ is_fine (row_given phrases letters row)
-  unfolding entry_given if◌then◌else◌
+  unfolding entry_given when◌then◌else◌
   fits_stop k e = simp k (fine_if _ _ e)
 
   pub fits_phrase : row.kind ≡ 2 → z ≡ is_letter row.letter → z ≡ is_fine (row_given phrases letters row)
-  unfolding entry_given if◌then◌else◌
+  unfolding entry_given when◌then◌else◌
   fits_phrase k e = simp k (fine_if _ _ e)
 
   pub fits_order : row.kind ≡ 3 → z ≡ (letters_in_front letters ≡? length letters) → z ≡ is_fine (row_given phrases letters row)
-  unfolding entry_given if◌then◌else◌
+  unfolding entry_given when◌then◌else◌
   fits_order k e = simp k (fine_if _ _ e)
 
 pub fits_none : (phrases : Bool) (letters : List ℕ) (row : Row) → (row.kind ≡ 0 → ⊥) → (row.kind ≡ 1 → ⊥) → (row.kind ≡ 2 → ⊥) → (row.kind ≡ 3 → ⊥)
     → false ≡ is_fine (row_given phrases letters row)
-unfolding entry_given if◌then◌else◌ is_fine
+unfolding entry_given when◌then◌else◌ is_fine
 fits_none phrases letters row not_start not-stop not-phrase not-order = simp ne_eqb
 
 pub ruleset row_fits = (fits_start, fits_stop, fits_phrase, fits_order, fits_none)

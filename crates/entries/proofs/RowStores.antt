@@ -8,7 +8,7 @@ use lib.Seq.{sets, take-length}
 use native.Mathlib.Numerals.{towards_suc}
 use native.Mathlib.Omega.{arith}
 use borrow.Author.Tests.{ne_eqb}
-use Rattle.model.specs.Words.{if◌then◌else◌}
+use Rattle.model.specs.Words.{when◌then◌else◌}
 use Rattle.model.specs.Bytes.{part}
 use Rattle.model.specs.Track.{point_width}
 use Rattle.model.specs.ChunkBytes.{number_bytes}
@@ -35,7 +35,7 @@ pub ruleset tag_stores = (tag_room, comma_room, tag_wrote, kept_set)
 module _ (phrases : Bool) (letters : List ℕ) (row : Row) (l : List ℕ) (at : ℕ) where
   module _ (k : row.kind ≡ 2) where
     phrase_data : data_of phrases letters row ≡ number_bytes 4 row.from ++ number_bytes 4 row.to
-    unfolding data_of if◌then◌else◌
+    unfolding data_of when◌then◌else◌
     phrase_data = simp k
 
     phrase_long : length (data_of phrases letters row) ≡ 8
@@ -53,7 +53,7 @@ module _ (phrases : Bool) (letters : List ℕ) (row : Row) (l : List ℕ) (at : 
 
   module _ (k : row.kind ≡ 3) where
     order_data : data_of phrases letters row ≡ letters
-    unfolding data_of if◌then◌else◌
+    unfolding data_of when◌then◌else◌
     order_data = simp k
 
     pub order_room : at + length (data_of phrases letters row) ≤ length l → at + length letters ≤ length l
@@ -67,7 +67,7 @@ module _ (phrases : Bool) (letters : List ℕ) (row : Row) (l : List ℕ) (at : 
 
   module _ (not-phrase : row.kind ≡ 2 → ⊥) (not-order : row.kind ≡ 3 → ⊥) where
     point_data : data_of phrases letters row ≡ number_bytes (point_width phrases) row.from
-    unfolding data_of if◌then◌else◌
+    unfolding data_of when◌then◌else◌
     point_data = simp ne_eqb
 
     width_long : (p : Bool) (n : ℕ) → length (number_bytes (point_width p) n) ≡ point_width p

@@ -7,7 +7,7 @@ use lib.ListN.{length, length-append}
 use native.Mathlib.Nat.{add-zero}
 use native.Mathlib.Omega.{arith}
 use borrow.Author.Tests.{ne_eqb}
-use Rattle.model.specs.Words.{if◌then◌else◌}
+use Rattle.model.specs.Words.{when◌then◌else◌}
 use Rattle.model.specs.ChunkBytes.{number_bytes}
 use Rattle.writing.specs.Parts.{limited}
 use Rattle.writing.proofs.Limits.{limited_small, limited_most, limited_adds}
@@ -18,20 +18,20 @@ use Rattle.entries.proofs.RowsLeft.{left, left_all, left_next, left_over}
 -- one row
 module _ (phrases : Bool) (letters : List ℕ) (row : Row) where
   pub size_phrase : row.kind ≡ 2 → 12 ≡ length (row_bytes phrases letters row)
-  unfolding row_bytes data_of number_bytes if◌then◌else◌
+  unfolding row_bytes data_of number_bytes when◌then◌else◌
   size_phrase k = simp k
 
   pub size_order : (z : ℕ) → row.kind ≡ 3 → z ≡ 4 + length letters → z ≡ length (row_bytes phrases letters row)
-  unfolding row_bytes data_of number_bytes if◌then◌else◌
+  unfolding row_bytes data_of number_bytes when◌then◌else◌
   size_order z k e = let same : z ≡ suc (suc (suc (suc (length letters)))) = omega arith in simp k same
 
   module _ (not-phrase : row.kind ≡ 2 → ⊥) (not-order : row.kind ≡ 3 → ⊥) where
     pub size_position : phrases ≡ true → 5 ≡ length (row_bytes phrases letters row)
-    unfolding row_bytes data_of number_bytes if◌then◌else◌
+    unfolding row_bytes data_of number_bytes when◌then◌else◌
     size_position p = rw p (simp ne_eqb)
 
     pub size_address : phrases ≡ false → 8 ≡ length (row_bytes phrases letters row)
-    unfolding row_bytes data_of number_bytes if◌then◌else◌
+    unfolding row_bytes data_of number_bytes when◌then◌else◌
     size_address p = rw p (simp ne_eqb)
 
 pub ruleset row_sizes = (size_phrase, size_order, size_position, size_address)

@@ -1,6 +1,6 @@
 -- Rows of four numbers, as seek entries are given, and the bytes that a row makes.
 use Rattle.std.specs.Prelude.{ℕ, zero, suc, ◌+◌, ◌*◌, ◌/◌, ◌%◌, List, [], ◌∷◌, ◌++◌, map, Bool, length, drop}
-use Rattle.model.specs.Words.{if◌then◌else◌, ◌≡?◌, Placed, Checked}
+use Rattle.model.specs.Words.{when◌then◌else◌, ◌≡?◌, Placed, Checked}
 use Rattle.model.specs.Bytes.{◌!◌}
 use Rattle.model.specs.Seek.{Entry}
 use Rattle.model.specs.Track.{point_width}
@@ -29,20 +29,20 @@ row_given phrases letters row = entry_given phrases letters row.kind row.letter 
 
 -- a number of its own for each tag: a phrase's is its letter, which is none of the others' numbers
 unfoldable pub slot_of : Row → ℕ
-slot_of row = if row.kind ≡? 2 then row.letter % 256 else if row.kind ≡? 3 then 2 else row.kind % 2
+slot_of row = when row.kind ≡? 2 then row.letter % 256 else when row.kind ≡? 3 then 2 else row.kind % 2
 
 unfoldable pub tag_of : Row → ℕ
 tag_of row =
-    if row.kind ≡? 0 then 0x7374 else
-    if row.kind ≡? 1 then 0x7370 else
-    if row.kind ≡? 2 then 0x5000 + row.letter % 256 else
+    when row.kind ≡? 0 then 0x7374 else
+    when row.kind ≡? 1 then 0x7370 else
+    when row.kind ≡? 2 then 0x5000 + row.letter % 256 else
     0x534C
 
 -- the bytes of a row that is an entry, with a comma in front
 unfoldable pub data_of : Bool → List ℕ → Row → List ℕ
 data_of phrases letters row =
-    if row.kind ≡? 2 then number_bytes 4 row.from ++ number_bytes 4 row.to else
-    if row.kind ≡? 3 then letters else
+    when row.kind ≡? 2 then number_bytes 4 row.from ++ number_bytes 4 row.to else
+    when row.kind ≡? 3 then letters else
     number_bytes (point_width phrases) row.from
 
 unfoldable pub row_bytes : Bool → List ℕ → Row → List ℕ

@@ -1,6 +1,6 @@
 -- The rules that entries keep (13, 14), over rows.
 use Rattle.std.specs.Prelude.{ℕ, ◌%◌, ◌<◌, List, [], ◌∷◌, Bool, true, false, ◌≡◌, get_or, set}
-use Rattle.model.specs.Words.{if◌then◌else◌, ◌and◌, ◌or◌, ◌<?◌, ◌≤?◌, ◌≡?◌, Placed, Checked, Checked.fine, ◌>>=◌, ◌>>◌}
+use Rattle.model.specs.Words.{when◌then◌else◌, ◌and◌, ◌or◌, ◌<?◌, ◌≤?◌, ◌≡?◌, Placed, Checked, Checked.fine, ◌>>=◌, ◌>>◌}
 use Rattle.model.specs.Seek.{Entry}
 use Rattle.model.specs.Points.{is_span, points_hold, is_position, order_holds}
 use Rattle.model.specs.SeekBytes.{entries_given}
@@ -25,7 +25,7 @@ seek_stage phrases entries items letters = do
 -- the start point's value, 0 without one
 unfoldable pub started_in : List Row → ℕ
 started_in [] = 0
-started_in (row ∷ rows) = if row.kind ≡? 0 then row.from else started_in rows
+started_in (row ∷ rows) = when row.kind ≡? 0 then row.from else started_in rows
 
 unfoldable pub has_list : List Row → Bool
 has_list [] = false
@@ -33,13 +33,13 @@ has_list (row ∷ rows) = (row.kind ≡? 3) or has_list rows
 
 -- with phrases a point is a position in a list of so many letters, in a stream an address
 unfoldable pub is_point : Bool → List ℕ → ℕ → ℕ → Bool
-is_point phrases items listed value = if phrases then value ≤? listed else is_place items value
+is_point phrases items listed value = when phrases then value ≤? listed else is_place items value
 
 unfoldable pub row_holds : Bool → List ℕ → ℕ → ℕ → Row → Bool
 row_holds phrases items started listed row =
-    if row.kind ≡? 3 then true else
-    if row.kind ≡? 2 then is_span (is_place items) row.from row.to else
-    if (row.kind ≡? 1) and (row.from <? started) then false else
+    when row.kind ≡? 3 then true else
+    when row.kind ≡? 2 then is_span (is_place items) row.from row.to else
+    when (row.kind ≡? 1) and (row.from <? started) then false else
     is_point phrases items listed row.from
 
 unfoldable pub rows_hold : Bool → List ℕ → ℕ → ℕ → List Row → Bool
@@ -48,7 +48,7 @@ rows_hold phrases items started listed (row ∷ rows) = row_holds phrases items 
 
 -- a phrase's letter is flagged
 unfoldable pub marked : List Bool → Row → List Bool
-marked flags row = if row.kind ≡? 2 then set flags (row.letter % 256) true else flags
+marked flags row = when row.kind ≡? 2 then set flags (row.letter % 256) true else flags
 
 unfoldable pub is_named : ℕ → List Row → Bool
 is_named letter [] = false
@@ -63,11 +63,11 @@ all_named rows [] = true
 all_named rows (letter ∷ letters) = is_named letter rows and all_named rows letters
 
 unfoldable pub letters_fault : Bool → List Row → List ℕ → ℕ
-letters_fault ordered rows letters = if ordered then (if all_named rows letters then 0 else 14) else 0
+letters_fault ordered rows letters = when ordered then (when all_named rows letters then 0 else 14) else 0
 
 -- 14 where letters count
 unfoldable pub order_fault : Bool → Bool → List Row → List ℕ → ℕ
-order_fault phrases ordered rows letters = if phrases then letters_fault ordered rows letters else 0
+order_fault phrases ordered rows letters = when phrases then letters_fault ordered rows letters else 0
 
 -- A judgement holds where all items can be written, and the front has come further meanwhile.
 pub record Says (source items : List ℕ) (judged : Judged) (meant : Bool) : Type 0 where

@@ -1,6 +1,6 @@
 // The rules that all given entries keep (refusals 12, 13 and 14), told while the items are checked.
 ghost use Rattle.std.specs.Prelude.{◌≡◌, length};
-ghost use Rattle.model.specs.Words.{if◌then◌else◌};
+ghost use Rattle.model.specs.Words.{when◌then◌else◌};
 ghost use Rattle.entries.specs.Rows.{rows_in};
 ghost use Rattle.entries.specs.Rules.{Says, Tells, started_in, has_list, rows_hold, order_fault};
 
@@ -71,7 +71,7 @@ fn judge_rows(
 
 // How many letters the order list has, none where there is no list.
 fn list_length(ordered: bool, letters: &[u8]) -> usize
-    ensures { result ≡ (if ordered then length letters.now else 0) }
+    ensures { result ≡ (when ordered then length letters.now else 0) }
 {
     if ordered {
         return letters.len();

@@ -6,7 +6,7 @@ use mathlib.Core.Path.{◌≡◌, refl}
 use lib.ListN.{length}
 use native.Mathlib.Omega.{arith}
 use borrow.Author.Tests.{lt-leb}
-use Rattle.model.specs.Words.{if◌then◌else◌, ◌and◌, ◌or◌, ◌≤?◌, ◌≡?◌}
+use Rattle.model.specs.Words.{when◌then◌else◌, ◌and◌, ◌or◌, ◌≤?◌, ◌≡?◌}
 use Rattle.model.specs.Bytes.{◌!◌}
 use Rattle.model.specs.Event.{has_kind, is_shift, is_value, long_kind, short_kind, long_at, short_at, formed, control_at}
 use Rattle.model.specs.declared.Voice.{Voice}
@@ -34,7 +34,7 @@ zero_is_value kind =
 
 module _ (voice : Voice) (s : List ℕ) (at : ℕ) where
   control_mended : at + 1 ≤ length s → Mended event_seen s (λ t. control_at voice t at) (at + 1)
-  unfolding control_at formed long_at is_value if◌then◌else◌ ◌and◌
+  unfolding control_at formed long_at is_value when◌then◌else◌ ◌and◌
   control_mended within =
       record {
         rest = 0x3B ∷ 0x00 ∷ [];
@@ -50,7 +50,7 @@ module _ (voice : Voice) (s : List ℕ) (at : ℕ) where
 
   value_mended : at + 1 < length s → (s ! (at + 1) / 16 % 4 ≡? 3) ≡ true → (long_kind (s ! (at + 1) % 16) ≡? 0) ≡ false
       → not (has_kind voice (long_kind (s ! (at + 1) % 16))) ≡ false → Mended event_seen s (λ t. control_at voice t at) (at + 2)
-  unfolding control_at formed long_at if◌then◌else◌
+  unfolding control_at formed long_at when◌then◌else◌
   value_mended within long some has =
       record {
         rest = 0x00 ∷ [];
@@ -73,7 +73,7 @@ module _ (voice : Voice) (s : List ℕ) (at : ℕ) where
         (λ h. exact_if event_seen s _ (at + 1) (not (has_kind voice (long_kind (s ! (at + 1) % 16)))) _ _ (λ i. exact_wrong event_seen s _ (at + 1) refl (control_mended here) (omega arith))
         (λ i. exact_byte event_seen s _ (Refused 20) (λ end. refl) (at + 1) (at + 2)
         (λ value t.
-        if is_value (long_kind (s ! (at + 1) % 16)) value then Is (Control (long_kind (s ! (at + 1) % 16)) (s ! (at + 1) / 64) value) (at + 3) else
+        when is_value (long_kind (s ! (at + 1) % 16)) value then Is (Control (long_kind (s ! (at + 1) % 16)) (s ! (at + 1) / 64) value) (at + 3) else
         Refused 23 (at + 2))
         (omega arith) (mended_end event_seen s _ (at + 2) (omega arith) (value_mended room long h i))
         (λ more. exact_if event_seen s _ (at + 2) (is_value (long_kind (s ! (at + 1) % 16)) (s ! (at + 2))) _ _

@@ -5,7 +5,7 @@ use mathlib.Core.Path.{◌≡◌, refl, ◌∙◌, ap}
 use lib.ListN.{length}
 use native.Mathlib.Omega.{arith}
 use borrow.Author.Tests.{lt-leb, leb-true, leb-false, lt-ltb, le-ltb, ltb-true, ltb-false, ne_eqb}
-use Rattle.model.specs.Words.{if◌then◌else◌, ◌<?◌, ◌≤?◌, ◌≡?◌}
+use Rattle.model.specs.Words.{when◌then◌else◌, ◌<?◌, ◌≤?◌, ◌≡?◌}
 use Rattle.model.specs.Bytes.{◌!◌}
 use Rattle.model.specs.Duration.{two_byte_value, duration_at, not_zero, gate_at}
 use Rattle.model.specs.declared.ReadDuration.{ReadDuration}
@@ -21,15 +21,15 @@ duration_seen (Refused number place) = fails number place
 -- what follows a first byte with its top bit set
 second_at : ℕ → ℕ → List ℕ → ReadDuration
 second_at at first s =
-    if length s ≤? at + 1 then Refused 20 (length s) else
-    if s ! (at + 1) <? 128 then Is (two_byte_value first (s ! (at + 1))) (at + 2) else
+    when length s ≤? at + 1 then Refused 20 (length s) else
+    when s ! (at + 1) <? 128 then Is (two_byte_value first (s ! (at + 1))) (at + 2) else
     Refused 23 (at + 1)
 
 -- TWO BYTES, of a duration or of what is made of one that is not 0
 module _ (made : ReadDuration → ReadDuration) (kept : (value next : ℕ) → 0 < value → made (Is value next) ≡ Is value next)
     (refuses : (number place : ℕ) → made (Refused number place) ≡ Refused number place) (at : ℕ) where
   two_read : (t : List ℕ) → at < length t → 128 ≤ t ! at → made (duration_at t at) ≡ second_at at (t ! at) t
-  unfolding duration_at second_at if◌then◌else◌
+  unfolding duration_at second_at when◌then◌else◌
   two_read t here two =
       let is : duration_at t at ≡ second_at at (t ! at) t = simp (lt-leb, le-ltb) in
       ap made is
@@ -43,7 +43,7 @@ module _ (made : ReadDuration → ReadDuration) (kept : (value next : ℕ) → 0
         two_read t (omega arith) (omega arith) ∙ ap (λ (byte : ℕ). second_at at byte t) first
 
     second_mended : Mended duration_seen s (λ t. made (duration_at t at)) (at + 1)
-    unfolding second_at if◌then◌else◌
+    unfolding second_at when◌then◌else◌
     second_mended =
         record {
           rest = 0x01 ∷ [];
@@ -60,14 +60,14 @@ module _ (made : ReadDuration → ReadDuration) (kept : (value next : ℕ) → 0
     two_exact =
         exact_as duration_seen s _ (second_at at (s ! at)) _ at at (at + 1) (omega arith) read_as
         (exact_byte duration_seen s _ (Refused 20) (λ end. refl) at (at + 1)
-        (λ second t. if second <? 128 then Is (two_byte_value (s ! at) second) (at + 2) else Refused 23 (at + 1)) (omega arith)
+        (λ second t. when second <? 128 then Is (two_byte_value (s ! at) second) (at + 2) else Refused 23 (at + 1)) (omega arith)
         (mended_end duration_seen s _ (at + 1) (omega arith) second_mended)
         (λ room. exact_if duration_seen s _ (at + 1) (s ! (at + 1) <? 128) _ _ (λ h. exact_ends duration_seen s _ (at + 1) refl (omega arith))
         (λ h. exact_wrong duration_seen s _ (at + 1) refl second_mended (omega arith))))
 
 module _ (s : List ℕ) (at : ℕ) where
   pub duration_exact : at < length s → Exact duration_seen s (λ t. duration_at t at) (λ t. duration_at t at) at
-  unfolding duration_at if◌then◌else◌
+  unfolding duration_at when◌then◌else◌
   duration_exact here =
       by_test (s ! at <? 128)
       (λ h. exact_as duration_seen s _ (λ t. Is (s ! at) (at + 1)) _ at at (at + 1) (omega arith)
@@ -79,7 +79,7 @@ module _ (s : List ℕ) (at : ℕ) where
       (λ h. two_exact (λ d. d) (λ value next some. refl) (λ number place. refl) at s here (ltb-false _ _ h))
 
   gate_mended : at ≤ length s → Mended duration_seen s (λ t. gate_at t at) at
-  unfolding gate_at not_zero duration_at if◌then◌else◌
+  unfolding gate_at not_zero duration_at when◌then◌else◌
   gate_mended within =
       record {
         rest = 0x01 ∷ [];
@@ -91,8 +91,8 @@ module _ (s : List ℕ) (at : ℕ) where
       }
 
   -- a gate time of one byte
-  gate_read : (t : List ℕ) → at < length t → t ! at < 128 → gate_at t at ≡ (if t ! at ≡? 0 then Refused 21 at else Is (t ! at) (at + 1))
-  unfolding gate_at not_zero duration_at if◌then◌else◌
+  gate_read : (t : List ℕ) → at < length t → t ! at < 128 → gate_at t at ≡ (when t ! at ≡? 0 then Refused 21 at else Is (t ! at) (at + 1))
+  unfolding gate_at not_zero duration_at when◌then◌else◌
   gate_read t here one = simp (lt-leb, lt-ltb)
 
   pub gate_exact : at ≤ length s → Exact duration_seen s (λ t. gate_at t at) (λ t. gate_at t at) at
@@ -104,10 +104,10 @@ module _ (s : List ℕ) (at : ℕ) where
       (λ h.
       let here = leb-false (length s) at h in
       by_test (s ! at <? 128)
-      (λ i. exact_as duration_seen s _ (λ t. if s ! at ≡? 0 then Refused 21 at else Is (s ! at) (at + 1)) _ at at (at + 1) (omega arith)
+      (λ i. exact_as duration_seen s _ (λ t. when s ! at ≡? 0 then Refused 21 at else Is (s ! at) (at + 1)) _ at at (at + 1) (omega arith)
       (λ t a.
       let first = a.same at (omega arith) in
-      gate_read t (omega arith) (omega (arith, ltb-true)) ∙ ap (λ (byte : ℕ). if byte ≡? 0 then Refused 21 at else Is byte (at + 1)) first)
+      gate_read t (omega arith) (omega (arith, ltb-true)) ∙ ap (λ (byte : ℕ). when byte ≡? 0 then Refused 21 at else Is byte (at + 1)) first)
       (exact_if duration_seen s _ at (s ! at ≡? 0) _ _ (λ j. exact_wrong duration_seen s _ at refl (gate_mended within) (omega arith))
       (λ j. exact_ends duration_seen s _ at refl (omega arith))))
       (λ i. two_exact (not_zero at) (λ value next some. if_false _ _ _ (ne_eqb value 0 (λ e. omega arith))) (λ number place. refl) at s here (ltb-false _ _ i)))

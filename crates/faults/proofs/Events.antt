@@ -5,7 +5,7 @@ use mathlib.Core.Path.{◌≡◌, refl, ◌∙◌, ap}
 use lib.ListN.{length}
 use native.Mathlib.Omega.{arith}
 use borrow.Author.Tests.{lt-leb}
-use Rattle.model.specs.Words.{if◌then◌else◌, ◌≡?◌}
+use Rattle.model.specs.Words.{when◌then◌else◌, ◌≡?◌}
 use Rattle.model.specs.Bytes.{◌!◌}
 use Rattle.model.specs.Duration.{gate_at}
 use Rattle.model.specs.Event.{is_sound, gated, sound_at, control_at, system_at, event_at}
@@ -28,20 +28,20 @@ gated_seen voice byte (gate.Is value next) = refl
 gated_seen voice byte (gate.Refused number place) = refl
 
 pub nop_reads : (voice : Voice) (t : List ℕ) (at : ℕ) → at + 1 < length t → t ! at ≡ 0xFF → t ! (at + 1) ≡ 0x00 → event_at voice t at ≡ Is Nop (at + 2)
-unfolding event_at system_at if◌then◌else◌
+unfolding event_at system_at when◌then◌else◌
 nop_reads voice t at room first second = let here : at < length t = omega arith in simp (lt-leb, first, second)
 
 -- what follows a first byte
 first_at : Voice → ℕ → ℕ → List ℕ → ReadEvent
 first_at voice at first s =
-    if first ≡? 0x00 then control_at voice s at else
-    if first ≡? 0xFF then system_at s at else
-    if is_sound voice first then gated voice first (gate_at s (at + 1)) else
+    when first ≡? 0x00 then control_at voice s at else
+    when first ≡? 0xFF then system_at s at else
+    when is_sound voice first then gated voice first (gate_at s (at + 1)) else
     Refused 21 at
 
 module _ (voice : Voice) (s : List ℕ) (at : ℕ) where
   first_read : (t : List ℕ) → Agree (at + 1) s t → event_at voice t at ≡ first_at voice at (s ! at) t
-  unfolding event_at first_at sound_at if◌then◌else◌
+  unfolding event_at first_at sound_at when◌then◌else◌
   first_read t a =
       let room : at < length t = omega arith in
       let first = a.same at (omega arith) in

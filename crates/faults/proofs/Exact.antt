@@ -9,7 +9,7 @@ use mathlib.Core.Path.{◌≡◌, refl, sym, ◌∙◌, ap, subst}
 use lib.ListN.{length}
 use native.Mathlib.Omega.{arith}
 use borrow.Author.Tests.{lt-leb, leb-true, leb-false}
-use Rattle.model.specs.Words.{if◌then◌else◌, ◌≤?◌}
+use Rattle.model.specs.Words.{when◌then◌else◌, ◌≤?◌}
 use Rattle.model.specs.Bytes.{◌!◌}
 use Rattle.model.proofs.Tests.{by_test, if_true}
 use Rattle.faults.proofs.Agreement.{Agree, agree_fewer, agree_itself, Continued, AreBytes}
@@ -85,8 +85,8 @@ module _ {R : Type 0} (seen : R → Seen) (s : List ℕ) (whole : List ℕ → R
           }
 
   -- a test
-  pub exact_if : (least : ℕ) (b : Bool) (x y : List ℕ → R) → (b ≡ true → Exact x least) → (b ≡ false → Exact y least) → Exact (λ t. if b then x t else y t) least
-  unfolding if◌then◌else◌
+  pub exact_if : (least : ℕ) (b : Bool) (x y : List ℕ → R) → (b ≡ true → Exact x least) → (b ≡ false → Exact y least) → Exact (λ t. when b then x t else y t) least
+  unfolding when◌then◌else◌
   exact_if least true x y f g = f refl
   exact_if least false x y f g = g refl
 
@@ -97,10 +97,10 @@ module _ {R : Type 0} (seen : R → Seen) (s : List ℕ) (whole : List ℕ → R
 
     pub exact_byte : (place : ℕ) (read : ℕ → List ℕ → R) → (least ≤ place) × (least ≤ length s)
         → (length s ≤ place → Mended (length s)) → (place < length s → Exact (read (s ! place)) place)
-        → Exact (λ t. if length t ≤? place then cut (length t) else read (t ! place) t) least
-    unfolding if◌then◌else◌
+        → Exact (λ t. when length t ≤? place then cut (length t) else read (t ! place) t) least
+    unfolding when◌then◌else◌
     exact_byte place read h missing there =
-        let all : List ℕ → R = λ t. if length t ≤? place then cut (length t) else read (t ! place) t in
+        let all : List ℕ → R = λ t. when length t ≤? place then cut (length t) else read (t ! place) t in
         by_test (length s ≤? place)
         (λ i. exact_cut all (if_true (length s ≤? place) _ _ i) h.1 (missing (leb-true _ _ i)))
         (λ i.

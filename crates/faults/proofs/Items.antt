@@ -7,7 +7,7 @@ use mathlib.Core.Path.{◌≡◌, refl, sym, ◌∙◌, ap, subst}
 use lib.ListN.{length}
 use native.Mathlib.Omega.{arith}
 use borrow.Author.Tests.{le-leb, lt-leb, leb-true, eqb-true}
-use Rattle.model.specs.Words.{if◌then◌else◌, ◌and◌}
+use Rattle.model.specs.Words.{when◌then◌else◌, ◌and◌}
 use Rattle.model.specs.Bytes.{◌!◌}
 use Rattle.model.specs.Duration.{duration_at}
 use Rattle.model.specs.Event.{short_at, formed, control_at, event_at}
@@ -23,7 +23,7 @@ use Rattle.faults.proofs.Timed.{item_seen, timed_at, timed_exact}
 
 pub zeros_refused : (voice : Voice) (s : List ℕ) (at : ℕ) → at + 2 < length s → s ! at ≡ 0 → s ! (at + 1) ≡ 0 → s ! (at + 2) ≡ 0
     → timed_at voice s at ≡ Refused 23 (at + 2)
-unfolding duration_at with_duration event_at control_at formed short_at with_event if◌then◌else◌ ◌and◌
+unfolding duration_at with_duration event_at control_at formed short_at with_event when◌then◌else◌ ◌and◌
 zeros_refused voice s at room first second third =
     let here : at < length s = omega arith in
     let more : at + 1 < length s = omega arith in

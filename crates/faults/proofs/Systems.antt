@@ -7,7 +7,7 @@ use lib.ListN.{length, replicate, length-append, length-replicate}
 use lib.Seq.{get_or_at}
 use native.Mathlib.Omega.{arith}
 use borrow.Author.Tests.{lt-leb, le-ltb, ltb-false, eqb-true}
-use Rattle.model.specs.Words.{if◌then◌else◌, ◌<?◌, ◌≡?◌}
+use Rattle.model.specs.Words.{when◌then◌else◌, ◌<?◌, ◌≡?◌}
 use Rattle.model.specs.Bytes.{◌!◌}
 use Rattle.model.specs.Event.{closed_at, exclusive_at, system_at}
 use Rattle.model.specs.declared.Event.TheVariants.{Nop, Exclusive}
@@ -26,7 +26,7 @@ ending_bytes (suc count) = (omega arith, ending_bytes count)
 
 module _ (s : List ℕ) (at : ℕ) where
   size_mended : at + 2 ≤ length s → Mended event_seen s (λ t. exclusive_at t at) (at + 2)
-  unfolding exclusive_at closed_at if◌then◌else◌
+  unfolding exclusive_at closed_at when◌then◌else◌
   size_mended within =
       record {
         rest = 0x03 ∷ 0x00 ∷ 0x00 ∷ 0xF7 ∷ [];
@@ -43,7 +43,7 @@ module _ (s : List ℕ) (at : ℕ) where
   -- inside an exclusive, past its size
   ending_mended : (place : ℕ) → at + 2 < place → place ≤ at + 2 + s ! (at + 2) → place ≤ length s → 3 ≤ s ! (at + 2)
       → Mended event_seen s (λ t. exclusive_at t at) place
-  unfolding exclusive_at closed_at if◌then◌else◌
+  unfolding exclusive_at closed_at when◌then◌else◌
   ending_mended place past before within enough =
       let count = at + 2 + s ! (at + 2) - place in
       let zeros : List ℕ = replicate count 0x00 in
@@ -69,7 +69,7 @@ module _ (s : List ℕ) (at : ℕ) where
       (λ h.
       let enough : 3 ≤ s ! (at + 2) = ltb-false _ _ h in
       exact_byte event_seen s _ (Refused 20) (λ end. refl) (at + 2) (at + 2 + s ! (at + 2))
-      (λ last t. if last ≡? 0xF7 then Is (Exclusive at (s ! (at + 2))) (at + 2 + s ! (at + 2) + 1) else Refused 23 (at + 2 + s ! (at + 2))) (omega arith)
+      (λ last t. when last ≡? 0xF7 then Is (Exclusive at (s ! (at + 2))) (at + 2 + s ! (at + 2) + 1) else Refused 23 (at + 2 + s ! (at + 2))) (omega arith)
       (λ past. ending_mended (length s) room past (omega arith) enough)
       (λ more. exact_if event_seen s _ (at + 2 + s ! (at + 2)) (s ! (at + 2 + s ! (at + 2)) ≡? 0xF7) _ _
       (λ i. exact_ends event_seen s _ (at + 2 + s ! (at + 2)) refl (omega arith))
@@ -83,7 +83,7 @@ module _ (s : List ℕ) (at : ℕ) where
       (mended_end event_seen s _ (at + 2) within (size_mended within)) closed_exact
 
   system_mended : at + 1 ≤ length s → Mended event_seen s (λ t. system_at t at) (at + 1)
-  unfolding system_at if◌then◌else◌
+  unfolding system_at when◌then◌else◌
   system_mended within =
       record {
         rest = 0x00 ∷ [];
@@ -97,14 +97,14 @@ module _ (s : List ℕ) (at : ℕ) where
 
   -- FF F0, in any body
   exclusive_read : (t : List ℕ) → at + 1 < length t → t ! (at + 1) ≡ 0xF0 → system_at t at ≡ exclusive_at t at
-  unfolding system_at if◌then◌else◌
+  unfolding system_at when◌then◌else◌
   exclusive_read t room second = simp (lt-leb, second)
 
   pub system_exact : at + 1 ≤ length s → Exact event_seen s (λ t. system_at t at) (λ t. system_at t at) (at + 1)
   unfolding system_at
   system_exact within =
       exact_byte event_seen s _ (Refused 20) (λ end. refl) (at + 1) (at + 1)
-      (λ second t. if second ≡? 0x00 then Is Nop (at + 2) else if second ≡? 0xF0 then exclusive_at t at else Refused 22 (at + 1)) (omega arith)
+      (λ second t. when second ≡? 0x00 then Is Nop (at + 2) else when second ≡? 0xF0 then exclusive_at t at else Refused 22 (at + 1)) (omega arith)
       (mended_end event_seen s _ (at + 1) within (system_mended within))
       (λ room. exact_if event_seen s _ (at + 1) (s ! (at + 1) ≡? 0x00) _ _ (λ h. exact_ends event_seen s _ (at + 1) refl (omega arith))
       (λ h. exact_if event_seen s _ (at + 1) (s ! (at + 1) ≡? 0xF0) _ _

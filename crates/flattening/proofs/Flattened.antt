@@ -7,7 +7,7 @@ use lib.Seq.{sets, sets-eq}
 use native.Mathlib.Nat.{zero-add}
 use native.Mathlib.Omega.{arith}
 use borrow.Author.Tests.{lt-ltb, le-ltb}
-use Rattle.model.specs.Words.{if◌then◌else◌, ◌or◌, Checked, Checked.fine, Checked.refused}
+use Rattle.model.specs.Words.{when◌then◌else◌, ◌or◌, Checked, Checked.fine, Checked.refused}
 use Rattle.model.specs.Answer.{written_over, memory_after, flatten_answer, flatten_room}
 use Rattle.model.specs.declared.Span.{Span}
 use Rattle.model.specs.declared.FlattenAnswer.TheVariants as flatten
@@ -18,15 +18,15 @@ use Rattle.flattening.specs.Orders.{order_bytes, AllShaped, Measured, fitted}
 
 module _ (header room : ℕ) (bytes : List ℕ) where
   too_long : 65536 < length bytes → fitted header room bytes ≡ refused 18 header
-  unfolding fitted ◌or◌ if◌then◌else◌
+  unfolding fitted ◌or◌ when◌then◌else◌
   too_long h = simp lt-ltb
 
   no_room : length bytes ≤ 65536 → room < length bytes → fitted header room bytes ≡ refused 18 header
-  unfolding fitted ◌or◌ if◌then◌else◌
+  unfolding fitted ◌or◌ when◌then◌else◌
   no_room k h = simp (le-ltb, lt-ltb)
 
   all_fits : length bytes ≤ 65536 → length bytes ≤ room → fitted header room bytes ≡ fine bytes
-  unfolding fitted ◌or◌ if◌then◌else◌
+  unfolding fitted ◌or◌ when◌then◌else◌
   all_fits k h = simp le-ltb
 
 module _ (o : Checked (List ℕ)) (number place : ℕ) (is : o ≡ refused number place) where

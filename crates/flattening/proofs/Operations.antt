@@ -5,7 +5,7 @@ use mathlib.Core.Bool.{Bool, true}
 use mathlib.Core.List.{List}
 use mathlib.Core.Option.{Option, none, some}
 use lib.ListN.{length, take}
-use Rattle.model.specs.Words.{if◌then◌else◌, ◌or◌, ◌<?◌, Checked, Checked.fine, Checked.refused, passed, ◌>>=◌, ◌>>◌}
+use Rattle.model.specs.Words.{when◌then◌else◌, ◌or◌, ◌<?◌, Checked, Checked.fine, Checked.refused, passed, ◌>>=◌, ◌>>◌}
 use Rattle.model.specs.Item.{is_fine}
 use Rattle.model.specs.Play.{Section}
 use Rattle.model.specs.Order.{play_order, tune_in}
@@ -60,12 +60,12 @@ pub ruleset bodies_flattened_lem = (bodies_ready, bodies_answer, bodies_room)
 -- an order, and room for its plain form
 abbrev roomy : ℕ → Performance → Checked (List ℕ)
 roomy room performance =
-    (if (65536 <? length (plain_of performance)) or (room <? length (plain_of performance)) then refused 18 performance.track.header else passed)
+    (when (65536 <? length (plain_of performance)) or (room <? length (plain_of performance)) then refused 18 performance.track.header else passed)
     >> fine (plain_of performance)
 
 plain_fitted : (header room : ℕ) (bytes : List ℕ)
-    → ((if (65536 <? length bytes) or (room <? length bytes) then refused 18 header else passed) >> fine bytes) ≡ fitted header room bytes
-unfolding fitted ◌>>◌ if◌then◌else◌
+    → ((when (65536 <? length bytes) or (room <? length bytes) then refused 18 header else passed) >> fine bytes) ≡ fitted header room bytes
+unfolding fitted ◌>>◌ when◌then◌else◌
 plain_fitted header room bytes = by_test ((65536 <? length bytes) or (room <? length bytes)) (λ h. simp h) (λ h. simp h)
 
 order_flattened : (track : Track) (room : ℕ) (o : Option (List Section))

@@ -7,7 +7,7 @@ use lib.Dec.{T}
 use lib.ListN.{length, take, length-append}
 use native.Mathlib.Nat.{add-zero, zero-add, sub-zero}
 use native.Mathlib.Omega.{arith}
-use Rattle.model.specs.Words.{if◌then◌else◌}
+use Rattle.model.specs.Words.{when◌then◌else◌}
 use Rattle.model.specs.Item.{Item, Item.timed}
 use Rattle.model.specs.Play.{At}
 use Rattle.model.specs.Plain.{bytes_of, left, waits}
@@ -33,7 +33,7 @@ module _ (s : List ℕ) where
   heard_outlined : (lead bytes last : ℕ) (rows : List (At Event))
       → outlined s (heard_at lead last bytes) rows
       ≡ heard_at lead (last_step last (told s rows)) (bytes + length (bytes_of handy_phone (plain_part last (told s rows))))
-  unfolding outlined joined told last_step plain_part bytes_of if◌then◌else◌
+  unfolding outlined joined told last_step plain_part bytes_of when◌then◌else◌
   heard_outlined lead bytes last [] = ap (heard_at lead last) (sym (add-zero bytes))
   heard_outlined lead bytes last (row ∷ rows) =
       let size = length (content_bytes (content_of s row.event)) in
@@ -45,7 +45,7 @@ module _ (s : List ℕ) where
       heard_outlined lead (bytes + (gap + size)) row.step rows ∙ ap (heard_at lead (last_step row.step (told s rows))) whole
 
   pub outline_shapes : (lasts : ℕ) (rows : List (At Event)) → shaped lasts (outlined s silence rows) ≡ shape_of lasts (told s rows)
-  unfolding outlined joined told shaped shape_of if◌then◌else◌
+  unfolding outlined joined told shaped shape_of when◌then◌else◌
   outline_shapes lasts [] = ap (λ (n : ℕ). record { heard = false; lead = 0; bytes = 0; tail = n }) (sub-zero lasts)
   outline_shapes lasts (row ∷ rows) =
       ap (shaped lasts) (heard_outlined row.step (length (content_bytes (content_of s row.event))) row.step rows)

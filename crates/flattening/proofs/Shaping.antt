@@ -7,7 +7,7 @@ use mathlib.Core.Path.{◌≡◌, refl, sym, ◌∙◌, ap}
 use lib.ListN.{length}
 use native.Mathlib.Nat.{zero-add}
 use native.Mathlib.Omega.{arith}
-use Rattle.model.specs.Words.{if◌then◌else◌}
+use Rattle.model.specs.Words.{when◌then◌else◌}
 use Rattle.model.specs.Bytes.{◌!◌}
 use Rattle.model.specs.Item.{Item.timed, Item.end_mark, item_at, body_of, is_fine, items_of}
 use Rattle.model.specs.Play.{At}
@@ -32,12 +32,12 @@ use Rattle.flattening.proofs.Shapes.{outlined, outline_shapes}
 -- one message more
 module _ (outline : Outline) (step size found : ℕ) where
   pub joined_first : outline.heard ≡ false → found ≡ size → record { heard = true; lead = step; bytes = found; last = step } ≡ joined outline step size
-  unfolding joined if◌then◌else◌
+  unfolding joined when◌then◌else◌
   joined_first silent p = simp silent (ap (λ (n : ℕ). record { heard = true; lead = step; bytes = n; last = step }) p)
 
   pub joined_next : (gap : ℕ) → outline.heard ≡ true → found ≡ size → gap ≡ length (gap_bytes (step - outline.last))
       → record { heard = true; lead = outline.lead; bytes = outline.bytes + (gap + found); last = step } ≡ joined outline step size
-  unfolding joined if◌then◌else◌
+  unfolding joined when◌then◌else◌
   joined_next gap loud p q =
       let both : outline.bytes + (gap + found) ≡ outline.bytes + (length (gap_bytes (step - outline.last)) + size) = omega arith in
       simp loud (ap (λ (n : ℕ). record { heard = true; lead = outline.lead; bytes = n; last = step }) both)

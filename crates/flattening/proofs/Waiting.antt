@@ -6,7 +6,7 @@ use lib.ListN.{length, replicate, length-append}
 use lib.Seq.{sets}
 use native.Mathlib.Omega.{arith}
 use borrow.Author.Tests.{eq-eqb, ne_eqb, eqb-true, eqb-false}
-use Rattle.model.specs.Words.{if◌then◌else◌, ◌≡?◌}
+use Rattle.model.specs.Words.{when◌then◌else◌, ◌≡?◌}
 use Rattle.model.specs.Duration.{duration_bytes}
 use Rattle.model.specs.Item.{Item, Item.timed}
 use Rattle.model.specs.Plain.{item_bytes, bytes_of, times, left, waits, rest}
@@ -49,7 +49,7 @@ module _ (gap : ℕ) where
 
 -- the waits
 wait_first : (items : List (Item Content)) → bytes_of handy_phone (timed 16511 nop ∷ items) ≡ wait_bytes ++ bytes_of handy_phone items
-unfolding bytes_of item_bytes duration_bytes content_bytes if◌then◌else◌
+unfolding bytes_of item_bytes duration_bytes content_bytes when◌then◌else◌
 wait_first items = refl
 
 repeated_length : (count : ℕ) → length (bytes_of handy_phone (replicate count (timed 16511 nop))) ≡ count * 4
@@ -74,7 +74,7 @@ module _ (gap : ℕ) where
 
   -- a rest that is written with the waits alone, and one with a last part
   rest_none : left 16511 gap ≡ 0 → rest handy_phone gap ≡ waits handy_phone gap
-  unfolding rest if◌then◌else◌
+  unfolding rest when◌then◌else◌
   rest_none e = simp eq-eqb
 
   module _ (v : ℕ) (is : v ≡ left 16511 gap) where
@@ -83,7 +83,7 @@ module _ (gap : ℕ) where
 
     module _ (some : v ≡ 0 → ⊥) where
       rest_bytes : bytes_of handy_phone (rest handy_phone gap) ≡ waits_bytes gap ++ (duration_bytes v ++ (0xFF ∷ 0x00 ∷ []))
-      unfolding rest if◌then◌else◌ bytes_of item_bytes content_bytes
+      unfolding rest when◌then◌else◌ bytes_of item_bytes content_bytes
       rest_bytes =
           let over : left 16511 gap ≡ 0 → ⊥ = λ e. some (is ∙ e) in
           simp ne_eqb

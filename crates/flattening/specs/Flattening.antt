@@ -1,7 +1,7 @@
 -- What the operation speaks of beside the definitions of the model: the plain form of a track, from its bodies and from its row.
 use Rattle.std.specs.Prelude.{ℕ, Bool, List, length}
 use Rattle.std.proofs.Math.Option.{Option, none, some}
-use Rattle.model.specs.Words.{if◌then◌else◌, ◌or◌, ◌<?◌, Checked, Checked.fine, Checked.refused, passed, ◌>>=◌, ◌>>◌}
+use Rattle.model.specs.Words.{when◌then◌else◌, ◌or◌, ◌<?◌, Checked, Checked.fine, Checked.refused, passed, ◌>>=◌, ◌>>◌}
 use Rattle.model.specs.Item.{items_of}
 use Rattle.model.specs.Play.{Section, tune_of, retold}
 use Rattle.model.specs.Word.{is_message}
@@ -34,5 +34,5 @@ bodies_flattened voice phrases header room body seek =
 unfoldable pub row_flattened : ℕ → Checked File → ℕ → Checked (List ℕ)
 row_flattened room outcome row = do
   performance ← row_performed outcome row
-  if (65536 <? length (plain_of performance)) or (room <? length (plain_of performance)) then refused 18 performance.track.header else passed
+  when (65536 <? length (plain_of performance)) or (room <? length (plain_of performance)) then refused 18 performance.track.header else passed
   fine (plain_of performance)

@@ -1,6 +1,6 @@
 -- The plain form of an order: the spans of its letters one after the other, the rest before the end, and the end mark.
 use Rattle.std.specs.Prelude.{ℕ, ◌+◌, ◌<◌, ◌≤◌, ◌≡◌, false, List, length, get_or}
-use Rattle.model.specs.Words.{if◌then◌else◌, ◌or◌, ◌<?◌, Checked, Checked.fine, Checked.refused}
+use Rattle.model.specs.Words.{when◌then◌else◌, ◌or◌, ◌<?◌, Checked, Checked.fine, Checked.refused}
 use Rattle.model.specs.Bytes.{◌!◌}
 use Rattle.model.specs.Plain.{bytes_of, rest, plain_after}
 use Rattle.model.specs.Content.{handy_phone}
@@ -28,7 +28,7 @@ shape_at shapes letter = get_or shapes letter no_shape
 -- one section more: the gap to its first message and its bytes, or, where it is silent, a longer gap
 unfoldable pub add_shape : Size → Shape → Size
 add_shape size shape =
-    if shape.heard then record { bytes = size.bytes + (length (gap_bytes (size.gap + shape.lead)) + shape.bytes); gap = shape.tail } else
+    when shape.heard then record { bytes = size.bytes + (length (gap_bytes (size.gap + shape.lead)) + shape.bytes); gap = shape.tail } else
     record { bytes = size.bytes; gap = size.gap + shape.tail }
 
 -- with the rest before the end and the end mark
@@ -55,4 +55,4 @@ pub record Measured (body : List ℕ) (items : Items) (spans : List Span) (lette
 
 -- 18, at the track's header, where a plain form is over 65,536 bytes or over the room
 unfoldable pub fitted : ℕ → ℕ → List ℕ → Checked (List ℕ)
-fitted header room bytes = if (65536 <? length bytes) or (room <? length bytes) then refused 18 header else fine bytes
+fitted header room bytes = when (65536 <? length bytes) or (room <? length bytes) then refused 18 header else fine bytes

@@ -1,6 +1,6 @@
 -- A plain form in parts, one for each section: its messages after those before, and what is known of a part before it is written.
 use Rattle.std.specs.Prelude.{ℕ, ◌+◌, ◌-◌, ◌≤◌, true, false, List, [], ◌∷◌, ◌++◌, map, ◌≡◌, length}
-use Rattle.model.specs.Words.{if◌then◌else◌}
+use Rattle.model.specs.Words.{when◌then◌else◌}
 use Rattle.model.specs.Bytes.{part}
 use Rattle.model.specs.Duration.{longest_duration, duration_bytes}
 use Rattle.model.specs.Item.{Item, Item.timed}
@@ -83,7 +83,7 @@ silence = record { heard = false; lead = 0; bytes = 0; last = 0 }
 -- one message more, of so many bytes, at a step
 unfoldable pub joined : Outline → ℕ → ℕ → Outline
 joined outline step size =
-    if outline.heard then record {
+    when outline.heard then record {
       heard = true;
       lead = outline.lead;
       bytes = outline.bytes + (length (gap_bytes (step - outline.last)) + size);

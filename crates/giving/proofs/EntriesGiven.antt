@@ -10,7 +10,7 @@ use native.Mathlib.Nat.{add-zero}
 use native.Mathlib.Numerals.{add-one}
 use native.Mathlib.Omega.{arith}
 use borrow.Author.Tests.{lt-ltb, le-ltb, eqb-false}
-use Rattle.model.specs.Words.{if◌then◌else◌, ◌or◌, ◌<?◌, ◌≡?◌, ◌otherwise◌, first_said, Checked, Checked.fine, Checked.refused, passed, ◌>>=◌, ◌>>◌}
+use Rattle.model.specs.Words.{when◌then◌else◌, ◌or◌, ◌<?◌, ◌≡?◌, ◌otherwise◌, first_said, Checked, Checked.fine, Checked.refused, passed, ◌>>=◌, ◌>>◌}
 use Rattle.model.specs.Bytes.{◌!◌, part}
 use Rattle.model.specs.Seek.{order_list, order_place, points_said}
 use Rattle.model.specs.SeekBytes.{entries_numbers}
@@ -144,15 +144,15 @@ module _ (one other : Checked Entries) (same : one ≡ other) where
 
 module _ (room space : ℕ) (all : Entries) where
   no_rows : room / 4 < length all → entries_fitted room space all ≡ refused 15 0
-  unfolding entries_fitted if◌then◌else◌ ◌or◌
+  unfolding entries_fitted when◌then◌else◌ ◌or◌
   no_rows h = simp lt-ltb
 
   no_letters : length all ≤ room / 4 → space < length (letters_of all) → entries_fitted room space all ≡ refused 15 0
-  unfolding entries_fitted if◌then◌else◌ ◌or◌
+  unfolding entries_fitted when◌then◌else◌ ◌or◌
   no_letters h k = simp (le-ltb, lt-ltb)
 
   all_fit : length all ≤ room / 4 → length (letters_of all) ≤ space → entries_fitted room space all ≡ fine all
-  unfolding entries_fitted if◌then◌else◌ ◌or◌
+  unfolding entries_fitted when◌then◌else◌ ◌or◌
   all_fit h k = simp le-ltb
 
 module _ (phrases : Bool) (seek : List ℕ) (count : ℕ) (many : count ≡ length (entries_said phrases seek)) where
@@ -243,9 +243,9 @@ pub ruleset bodies_given = (seek_small, seek_formed, bodies_answer, bodies_table
 -- THE TRACK that a row names
 
 fitted_track : (room space : ℕ) (c : Checked Track) (track : Track) → c ≡ fine track
-    → (c >>= λ given. ((if (room / 4 <? length given.entries) or (space <? length (letters_of given.entries)) then refused 15 0 else passed) >> fine given.entries))
+    → (c >>= λ given. ((when (room / 4 <? length given.entries) or (space <? length (letters_of given.entries)) then refused 15 0 else passed) >> fine given.entries))
     ≡ entries_fitted room space track.entries
-unfolding entries_fitted ◌>>=◌ ◌>>◌ if◌then◌else◌
+unfolding entries_fitted ◌>>=◌ ◌>>◌ when◌then◌else◌
 fitted_track room space c track e =
     rw e (by_test ((room / 4 <? length track.entries) or (space <? length (letters_of track.entries))) (λ h. simp h) (λ h. simp h))
 

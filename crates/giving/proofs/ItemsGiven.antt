@@ -8,7 +8,7 @@ use lib.ListN.{length, take}
 use lib.Seq.{sets}
 use native.Mathlib.Omega.{arith}
 use borrow.Author.Tests.{lt-ltb, le-ltb, ne_eqb}
-use Rattle.model.specs.Words.{if◌then◌else◌, ◌<?◌, Placed, Checked, Checked.fine, Checked.refused, passed, ◌>>=◌, ◌>>◌, Step.met}
+use Rattle.model.specs.Words.{when◌then◌else◌, ◌<?◌, Placed, Checked, Checked.fine, Checked.refused, passed, ◌>>=◌, ◌>>◌, Step.met}
 use Rattle.model.specs.Item.{Item, Item.timed, Item.end_mark, duration_of, item_at, item_step, body_of, is_fine, items_of, found, body_answer}
 use Rattle.model.specs.Word.{word_of, InWord}
 use Rattle.model.specs.Writing.{event_word, mark_word, item_word, items_numbers}
@@ -46,7 +46,7 @@ Items = List (Placed (Item Event))
 -- THE WORD
 
 event_given_lem : (event : Event) → InWord event → word_given (word_of event) false ≡ event_word event
-unfolding word_given word_of event_word if◌then◌else◌
+unfolding word_given word_of event_word when◌then◌else◌
 event_given_lem Nop h = refl
 event_given_lem (Note channel key gate) h = let some : word_of (Note channel key gate) ≡ 0 → ⊥ = λ e. omega arith in simp ne_eqb
 event_given_lem (Wave channel number gate) h = let some : word_of (Wave channel number gate) ≡ 0 → ⊥ = λ e. omega arith in simp ne_eqb
@@ -54,7 +54,7 @@ event_given_lem (Control kind channel value) h = let some : word_of (Control kin
 event_given_lem (Exclusive place size) h = let some : word_of (Exclusive place size) ≡ 0 → ⊥ = λ e. omega arith in simp ne_eqb
 
 mark_given : word_given 0 true ≡ mark_word
-unfolding word_given if◌then◌else◌
+unfolding word_given when◌then◌else◌
 mark_given = refl
 
 -- THE TABLE
@@ -213,11 +213,11 @@ same_table : (one other : Checked Items) (l m : List ℕ) → one ≡ other → 
 same_table one other l m same e = e ∙ ap (items_table l) same
 
 fitted_not : (room : ℕ) (items : Items) → room / 2 < length items → items_fitted room items ≡ refused 15 0
-unfolding items_fitted if◌then◌else◌
+unfolding items_fitted when◌then◌else◌
 fitted_not room items h = simp lt-ltb
 
 fitted_all : (room : ℕ) (items : Items) → length items ≤ room / 2 → items_fitted room items ≡ fine items
-unfolding items_fitted if◌then◌else◌
+unfolding items_fitted when◌then◌else◌
 fitted_all room items h = simp le-ltb
 
 module _ (s : List ℕ) (bodies : Bodies) (inside : Inside s bodies) (sequence : List ℕ) (cut : sequence ≡ bytes_in s bodies.sequence) where
@@ -254,8 +254,8 @@ pub ruleset items_given_lem = (sequence_small, sequence_reads, items_short, item
 -- WHAT IS ANSWERED, from the track that a row names
 
 fitted_track : (room : ℕ) (c : Checked Track) (track : Track) → c ≡ fine track
-    → (c >>= λ given. ((if room / 2 <? length given.items then refused 15 0 else passed) >> fine given.items)) ≡ items_fitted room track.items
-unfolding items_fitted ◌>>=◌ ◌>>◌ if◌then◌else◌
+    → (c >>= λ given. ((when room / 2 <? length given.items then refused 15 0 else passed) >> fine given.items)) ≡ items_fitted room track.items
+unfolding items_fitted ◌>>=◌ ◌>>◌ when◌then◌else◌
 fitted_track room c track e = rw e (by_test (room / 2 <? length track.items) (λ h. simp h) (λ h. simp h))
 
 module _ (buffer : List ℕ) (n row : ℕ) (r : NamedTrack) (told : Names (take n buffer) (track_named buffer n row) r) (room : ℕ) where

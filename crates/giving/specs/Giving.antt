@@ -1,6 +1,6 @@
 -- What the functions of this crate speak of beside the definitions of the model: the track that a row names with its bodies, and what is given of it.
 use Rattle.std.specs.Prelude.{ℕ, ◌/◌, ◌≡◌, Bool, List, [], ◌∷◌, length}
-use Rattle.model.specs.Words.{if◌then◌else◌, ◌or◌, ◌<?◌, ◌≡?◌, Placed, Checked, Checked.fine, Checked.refused, ◌>>=◌}
+use Rattle.model.specs.Words.{when◌then◌else◌, ◌or◌, ◌<?◌, ◌≡?◌, Placed, Checked, Checked.fine, Checked.refused, ◌>>=◌}
 use Rattle.model.specs.Item.{Item}
 use Rattle.model.specs.Seek.{Entry}
 use Rattle.model.specs.Word.{packed}
@@ -31,12 +31,12 @@ Names s (refused number place) (names.Refused n p) = (n ≡ number) × (p ≡ pl
 -- the word of an item, from that of its message, which is 0 where it has none
 unfoldable pub word_given : ℕ → Bool → ℕ
 word_given word mark =
-    if word ≡? 0 then (if mark then mark_word else packed 15 0 0 0) else
+    when word ≡? 0 then (when mark then mark_word else packed 15 0 0 0) else
     word
 
 -- items in a table with so much room
 unfoldable pub items_fitted : ℕ → List (Placed (Item Event)) → Checked (List (Placed (Item Event)))
-items_fitted room items = if room / 2 <? length items then refused 15 0 else fine items
+items_fitted room items = when room / 2 <? length items then refused 15 0 else fine items
 
 -- the four numbers of an entry, as a reader has it; a refused one has none
 unfoldable pub entry_read : ReadEntry → List ℕ
@@ -56,5 +56,5 @@ letters_read Refused = 0
 -- entries in a table with so much room, and their letters in another
 unfoldable pub entries_fitted : ℕ → ℕ → List (Placed Entry) → Checked (List (Placed Entry))
 entries_fitted room letters entries =
-    if (room / 4 <? length entries) or (letters <? length (letters_of entries)) then refused 15 0 else
+    when (room / 4 <? length entries) or (letters <? length (letters_of entries)) then refused 15 0 else
     fine entries

@@ -3,14 +3,14 @@ use Prim.Native.Nat.{◌≤◌}
 use mathlib.Core.Path.{◌≡◌, refl}
 use native.Mathlib.Omega.{arith}
 use borrow.Author.Tests.{le-leb, ne_eqb}
-use Rattle.model.specs.Words.{if◌then◌else◌, ◌and◌}
+use Rattle.model.specs.Words.{when◌then◌else◌, ◌and◌}
 use Rattle.model.specs.Word.{packed, packed_exclusive, word_of, InWord}
 use Rattle.model.specs.Writing.{kind_in, channel_in, value_in, gate_in, place_in, size_in, event_in, event_word}
 use Rattle.model.specs.declared.Event.{Event}
 use Rattle.model.specs.declared.Event.TheVariants.{Nop, Note, Wave, Control, Exclusive}
 
 pub word_back : (event : Event) → InWord event → event_in (word_of event) ≡ event
-unfolding word_of event_in if◌then◌else◌ ◌and◌
+unfolding word_of event_in when◌then◌else◌ ◌and◌
 word_back Nop h = refl
 word_back (Note channel key gate) h =
     let k : kind_in (packed 1 channel key gate) ≡ 1 = omega arith in
@@ -41,7 +41,7 @@ word_back (Exclusive place size) h =
     simp (k, p, n)
 
 pub given_word_back : (event : Event) → InWord event → event_in (event_word event) ≡ event
-unfolding event_word event_in if◌then◌else◌ ◌and◌
+unfolding event_word event_in when◌then◌else◌ ◌and◌
 given_word_back Nop h = refl
 given_word_back (Note channel key gate) h = word_back (Note channel key gate) h
 given_word_back (Wave channel number gate) h = word_back (Wave channel number gate) h

@@ -7,7 +7,7 @@ use lib.ListN.{length}
 use native.Mathlib.Decide.{dec_lt}
 use native.Mathlib.Omega.{arith}
 use borrow.Author.Tests.{eq-eqb, ne_eqb, eqb-true, eqb-false, lt-ltb}
-use Rattle.model.specs.Words.{if◌then◌else◌, ◌or◌, ◌<?◌, ◌≡?◌, any, keep, sum, Placed, Checked.fine, Step.met, Step.stuck}
+use Rattle.model.specs.Words.{when◌then◌else◌, ◌or◌, ◌<?◌, ◌≡?◌, any, keep, sum, Placed, Checked.fine, Step.met, Step.stuck}
 use Rattle.model.specs.Item.{Item, Item.timed, Item.end_mark, duration_of, lasting, item_at, item_met, item_step, body_of, is_fine, items_of}
 use Rattle.model.specs.Points.{is_address}
 use Rattle.model.specs.declared.Voice.{Voice}
@@ -134,7 +134,7 @@ passed_by_lem item rest address size h = let other : item.place ≡ address → 
 
 pub timed_by : (item : Placed (Item Event)) (rest : Items) (address : ℕ) → item.place < address
     → time_in (item ∷ rest) address ≡ duration_of item.what + time_in rest address
-unfolding keep lasting sum if◌then◌else◌
+unfolding keep lasting sum when◌then◌else◌
 timed_by item rest address h = simp lt-ltb
 
 -- A WALK UP TO AN ADDRESS

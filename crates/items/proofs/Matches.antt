@@ -6,7 +6,7 @@ use mathlib.Core.List.{List}
 use native.Mathlib.Omega.{arith}
 use lib.ListN.{length, get_or-eq_default}
 use borrow.Author.Tests.{lt-leb, le-leb, leb-true}
-use Rattle.model.specs.Words.{if◌then◌else◌, ◌and◌, ◌≤?◌, ◌≡?◌}
+use Rattle.model.specs.Words.{when◌then◌else◌, ◌and◌, ◌≤?◌, ◌≡?◌}
 use Rattle.model.specs.Duration.{not_zero}
 use Rattle.model.specs.Event.{is_note, is_wave, is_sound, sound, gated, has_kind, long_at, event_at, modulations, pitch_bends, expressions, standard_value}
 use Rattle.model.specs.Item.{with_event, with_duration, is_end_mark}
@@ -25,7 +25,7 @@ use Rattle.model.specs.declared.ReadItem.TheVariants as item
 -- a callee's duration d is the definition's e
 
 pub not_zero_is : (at : ℕ) (d e : ReadDuration) (value next : ℕ) (z : ReadDuration) → d ≡ e → d ≡ duration.Is value next
-    → z ≡ (if value ≡? 0 then duration.Refused 21 at else duration.Is value next) → z ≡ not_zero at e
+    → z ≡ (when value ≡? 0 then duration.Refused 21 at else duration.Is value next) → z ≡ not_zero at e
 unfolding not_zero
 not_zero_is at d e value next z p q h = rw (← p, q) h
 

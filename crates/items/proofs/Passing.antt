@@ -6,7 +6,7 @@ use mathlib.Core.Path.{◌≡◌, refl, sym, ◌∙◌, subst}
 use lib.ListN.{length}
 use native.Mathlib.Omega.{arith}
 use borrow.Author.Tests.{lt-leb, lt-ltb, ne_eqb, eqb-true, le-leb, leb-true, ltb-true, eqb-false, not-true}
-use Rattle.model.specs.Words.{if◌then◌else◌, ◌and◌, ◌≤?◌, ◌≡?◌}
+use Rattle.model.specs.Words.{when◌then◌else◌, ◌and◌, ◌≤?◌, ◌≡?◌}
 use Rattle.model.specs.Bytes.{◌!◌}
 use Rattle.model.specs.Duration.{duration_at, not_zero, gate_at}
 use Rattle.model.specs.Event.{is_sound, gated, sound_at, event_at, sound}
@@ -50,13 +50,13 @@ module _ (voice : Voice) (s : List ℕ) (at : ℕ) (there : at + 1 < length s) (
       (λ t. t)
 
   pub sounds_here : item_at voice s at ≡ with_event (s ! at) (sound_at voice s (at + 1))
-  unfolding item_at with_duration duration_at event_at if◌then◌else◌
+  unfolding item_at with_duration duration_at event_at when◌then◌else◌
   sounds_here = let here : at < length s = omega arith in simp (no_mark, lt-leb, lt-ltb, ne_eqb)
 
   -- and its gate time takes one byte too
   module _ (room : at + 2 < length s) (short : s ! (at + 2) < 128) where
     gate_is : gate_at s (at + 1 + 1) ≡ not_zero (at + 2) (duration.Is (s ! (at + 2)) (at + 3))
-    unfolding gate_at duration_at if◌then◌else◌
+    unfolding gate_at duration_at when◌then◌else◌
     gate_is =
         let place : at + 1 + 1 ≡ at + 2 = omega arith in
         let after : at + 2 + 1 ≡ at + 3 = omega arith in
@@ -83,7 +83,7 @@ pub record Short (voice : Voice) (s : List ℕ) (at : ℕ) : Type 0 where
   pub one : s ! at < 128
 
 pub short_stands : (voice : Voice) (s : List ℕ) (at : ℕ) → is_short voice s at ≡ true → Short voice s at
-unfolding is_short sound_at with_event not_zero gated if◌then◌else◌
+unfolding is_short sound_at with_event not_zero gated when◌then◌else◌
 short_stands voice s at test =
     let within : at + 3 ≤ length s = leb-true (at + 3) (length s) (and_left _ _ test) in
     let past_room = and_right _ _ test in

@@ -9,7 +9,7 @@ use native.Mathlib.Omega.{arith}
 use mir.Val.{Fits}
 use mir.Syntax.{w64}
 use borrow.Author.Tests.{eq-eqb, ne_eqb}
-use Rattle.model.specs.Words.{if◌then◌else◌, sum, Placed, Checked, Checked.fine, Checked.refused, Step.met, walk_to, in_turn, unasked}
+use Rattle.model.specs.Words.{when◌then◌else◌, sum, Placed, Checked, Checked.fine, Checked.refused, Step.met, walk_to, in_turn, unasked}
 use Rattle.model.specs.Bytes.{◌!◌}
 use Rattle.model.specs.Item.{Item, Item.timed, Item.end_mark, duration_of, lasting, item_at, item_step, body_of, body_answer}
 use Rattle.model.specs.declared.Voice.{Voice}
@@ -55,11 +55,11 @@ pub record Reading (voice : Voice) (s : List ℕ) (at count lasts : ℕ) : Type 
   pub same : onto count lasts left ≡ body_answer (body_of voice s)
 
 pub body_empty : (voice : Voice) (s : List ℕ) → length s ≡ 0 → body.Refused 11 0 ≡ body_answer (body_of voice s)
-unfolding body_of if◌then◌else◌ body_answer
+unfolding body_of when◌then◌else◌ body_answer
 body_empty voice s h = simp eq-eqb
 
 pub body_starts : (voice : Voice) (s : List ℕ) → (length s ≡ 0 → ⊥) → Reading voice s 0 0 0
-unfolding body_of if◌then◌else◌
+unfolding body_of when◌then◌else◌
 body_starts voice s h =
     record {
       before = [];

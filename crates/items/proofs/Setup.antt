@@ -6,7 +6,7 @@ use mathlib.Core.Path.{◌≡◌, refl, sym, ◌∙◌, ap, subst}
 use lib.ListN.{length}
 use native.Mathlib.Omega.{arith}
 use borrow.Author.Tests.{eq-eqb, ne_eqb, le-leb, lt-leb}
-use Rattle.model.specs.Words.{if◌then◌else◌, ◌≤?◌, Checked, walk_to, in_turn, unasked}
+use Rattle.model.specs.Words.{when◌then◌else◌, ◌≤?◌, Checked, walk_to, in_turn, unasked}
 use Rattle.model.specs.Item.{setup_message_at, message_met, setup_step, setup_of, check_answer}
 use Rattle.model.specs.declared.Event.{Event}
 use Rattle.model.specs.declared.ReadEvent.{ReadEvent}
@@ -23,11 +23,11 @@ pub record SettingUp (s : List ℕ) (at : ℕ) : Type 0 where
   pub same : check_answer left ≡ check_answer (setup_of s)
 
 pub setup_empty : (s : List ℕ) → length s ≡ 0 → check.Refused 10 0 ≡ check_answer (setup_of s)
-unfolding setup_of if◌then◌else◌ check_answer
+unfolding setup_of when◌then◌else◌ check_answer
 setup_empty s h = simp eq-eqb
 
 pub setup_starts : (s : List ℕ) → (length s ≡ 0 → ⊥) → SettingUp s 0
-unfolding setup_of if◌then◌else◌
+unfolding setup_of when◌then◌else◌
 setup_starts s h =
     record {
       before = [];

@@ -5,7 +5,7 @@ use mathlib.Core.Bool.{Bool, true, false}
 use mathlib.Core.Path.{◌≡◌}
 use lib.ListN.{length}
 use native.Mathlib.Omega.{arith}
-use Rattle.model.specs.Words.{if◌then◌else◌, ◌≡?◌, Checked.refused, Step.stuck, walk_to, in_turn, unasked}
+use Rattle.model.specs.Words.{when◌then◌else◌, ◌≡?◌, Checked.refused, Step.stuck, walk_to, in_turn, unasked}
 use Rattle.model.specs.Item.{item_at, item_met, item_step, body_of, setup_message_at, message_met, setup_step, setup_of}
 use Rattle.model.specs.declared.Voice.{Voice}
 use Rattle.model.specs.declared.ReadEvent.{ReadEvent}
@@ -22,10 +22,10 @@ stuck_item at end (EndMark next) n place a e = let z : ◌≡◌ {A = ℕ} 0 1 =
 stuck_item at end (Refused number there) n place a e = let same : there ≡ place = cc in omega arith
 
 pub body_refused_within : (voice : Voice) (s : List ℕ) (n place : ℕ) → body_of voice s ≡ refused n place → place ≤ length s
-unfolding body_of if◌then◌else◌ walk_to item_step
+unfolding body_of when◌then◌else◌ walk_to item_step
 body_refused_within voice s n place e = go (length s ≡? 0) e
   where
-    go : (t : Bool) → (if t then refused 11 0 else in_turn unasked [] (walk_to 11 (length s) (item_step voice s) 0)) ≡ refused n place
+    go : (t : Bool) → (when t then refused 11 0 else in_turn unasked [] (walk_to 11 (length s) (item_step voice s) 0)) ≡ refused n place
         → place ≤ length s
     go true q = let same : ◌≡◌ {A = ℕ} 0 place = cc in omega arith
     go false q =
@@ -40,10 +40,10 @@ stuck_message at (event.Is what next) n place e = let z : ◌≡◌ {A = ℕ} 0 
 stuck_message at (event.Refused number there) n place e = cc
 
 pub setup_refused_within : (s : List ℕ) (n place : ℕ) → setup_of s ≡ refused n place → place ≤ length s
-unfolding setup_of if◌then◌else◌ walk_to setup_step
+unfolding setup_of when◌then◌else◌ walk_to setup_step
 setup_refused_within s n place e = go (length s ≡? 0) e
   where
-    go : (t : Bool) → (if t then refused 10 0 else in_turn unasked [] (walk_to 10 (length s) (setup_step s) 0)) ≡ refused n place
+    go : (t : Bool) → (when t then refused 10 0 else in_turn unasked [] (walk_to 10 (length s) (setup_step s) 0)) ≡ refused n place
         → place ≤ length s
     go true q = let same : ◌≡◌ {A = ℕ} 0 place = cc in omega arith
     go false q =

@@ -5,7 +5,7 @@ use mathlib.Core.Path.{◌≡◌, sym, ◌∙◌, ap, ap₂}
 use lib.ListN.{length, get_or, set}
 use lib.Seq.{sets}
 use borrow.Author.Tests.{eq-eqb, ne_eqb}
-use Rattle.model.specs.Words.{if◌then◌else◌}
+use Rattle.model.specs.Words.{when◌then◌else◌}
 use Rattle.model.specs.Listing.{Line, shifts_after, long_kind_of, long_value_of, line_of}
 use Rattle.model.specs.ListingText.{fields, line_text}
 use Rattle.model.specs.declared.Event.{Event}
@@ -46,11 +46,11 @@ pub ruleset printed = (note_line_lem, wave_line, control_line, exclusive_line, n
 module _ (shifts : List ℕ) (event : Event) where
   module _ (kind channel value : ℕ) (e : event ≡ Control kind channel value) where
     pub shift_set : (later : List ℕ) → kind ≡ 5 → later ≡ set shifts channel value → later ≡ shifts_after shifts event
-    unfolding shifts_after if◌then◌else◌
+    unfolding shifts_after when◌then◌else◌
     shift_set later five h = h ∙ sym (ap (shifts_after shifts) e ∙ simp eq-eqb)
 
     pub shift_kept : (kind ≡ 5 → ⊥) → shifts ≡ shifts_after shifts event
-    unfolding shifts_after if◌then◌else◌
+    unfolding shifts_after when◌then◌else◌
     shift_kept other = sym (ap (shifts_after shifts) e ∙ simp ne_eqb)
 
   pub nop_kept : event ≡ Nop → shifts ≡ shifts_after shifts event

@@ -5,7 +5,7 @@ use mathlib.Core.List.{List, [], ◌∷◌}
 use mathlib.Core.Path.{◌≡◌, sym, ◌∙◌, ap}
 use lib.ListN.{length}
 use lib.Seq.{sets}
-use Rattle.model.specs.Words.{if◌then◌else◌}
+use Rattle.model.specs.Words.{when◌then◌else◌}
 use Rattle.model.specs.ListingText.{bytes, decimal, kind_name, channel_name, space}
 use Rattle.lines.specs.Fields.{closed, channel_said}
 use Rattle.lines.proofs.Numbers.{nothing_next, nothing_written}
@@ -29,7 +29,7 @@ pub ruleset nameless = (nothing_next, nothing_written)
 module _ (voiced : Bool) (channel at r : ℕ) (l m : List ℕ) where
   module _ (is : voiced ≡ true) where
     channel_voiced : channel_name (channel_said voiced channel) ≡ decimal channel
-    unfolding channel_said channel_name if◌then◌else◌
+    unfolding channel_said channel_name when◌then◌else◌
     channel_voiced = rw is
 
     pub voiced_next : r ≡ at + length (closed (decimal channel) space) → r ≡ at + length (closed (channel_name (channel_said voiced channel)) space)
@@ -40,7 +40,7 @@ module _ (voiced : Bool) (channel at r : ℕ) (l m : List ℕ) where
 
   module _ (is : voiced ≡ false) where
     channel_unvoiced : closed (channel_name (channel_said voiced channel)) space ≡ 0x2D ∷ 0x20 ∷ []
-    unfolding closed channel_said channel_name bytes if◌then◌else◌
+    unfolding closed channel_said channel_name bytes when◌then◌else◌
     channel_unvoiced = rw is
 
     pub unvoiced_next : r ≡ at + 2 → r ≡ at + length (closed (channel_name (channel_said voiced channel)) space)

@@ -10,7 +10,7 @@ use lib.IntN.{ℤ, pos, ◌-ℤ◌}
 use native.Mathlib.Nat.{sub-zero}
 use native.Mathlib.Omega.{arith}
 use borrow.Author.Tests.{leb-true, leb-false}
-use Rattle.model.specs.Words.{if◌then◌else◌, ◌≤?◌}
+use Rattle.model.specs.Words.{when◌then◌else◌, ◌≤?◌}
 use Rattle.model.specs.Pitch.{semitones}
 use Rattle.model.proofs.Tests.{if_true, if_false, by_test}
 use Rattle.pitch.proofs.Counts.{difference_up, raised, lowered}
@@ -42,18 +42,18 @@ module _ (step ms channel kind gate up down : ℕ) where
 
 pub note_said : (shift step ms channel key gate up down : ℕ) → up ≡ semitones_up key shift → down ≡ semitones_down shift
     → said (voiced_by step ms channel 1 gate up down) ≡ note_line shift step ms channel key gate
-unfolding said note_line channel_said if◌then◌else◌
+unfolding said note_line channel_said when◌then◌else◌
 note_said shift step ms channel key gate up down p q =
     ap (λ (value : ℤ). record { step = step; ms = ms; channel = some channel; kind = 1; value = value; gate = gate })
     (ap₂ (λ (x y : ℕ). pos x -ℤ pos y) p q ∙ pitch_said key shift)
 
 pub voiced_said : (step ms channel kind value gate : ℕ) → said (voiced_by step ms channel kind gate value 0) ≡ voiced_line step ms channel kind value gate
-unfolding said voiced_line channel_said if◌then◌else◌
+unfolding said voiced_line channel_said when◌then◌else◌
 voiced_said step ms channel kind value gate =
     ap (λ (number : ℤ). record { step = step; ms = ms; channel = some channel; kind = kind; value = number; gate = gate }) (difference_up value 0 (omega arith) ∙ ap pos (sub-zero value))
 
 pub unvoiced_said : (step ms kind value : ℕ) → said (unvoiced_by step ms 0 kind 0 value 0) ≡ unvoiced_line step ms kind value
-unfolding said unvoiced_line channel_said if◌then◌else◌
+unfolding said unvoiced_line channel_said when◌then◌else◌
 unvoiced_said step ms kind value =
     ap (λ (number : ℤ). record { step = step; ms = ms; channel = none; kind = kind; value = number; gate = 0 }) (difference_up value 0 (omega arith) ∙ ap pos (sub-zero value))
 

@@ -1,7 +1,7 @@
 -- What the functions of this crate speak of beside the definitions of the model: a line in parts, and the messages that rows say.
 use Rattle.std.specs.Prelude.{ℕ, zero, suc, ◌+◌, ◌-◌, ◌*◌, ◌/◌, ◌%◌, ◌<◌, ◌≤◌, Bool, List, [], ◌∷◌, ◌++◌, pos, ◌-ℤ◌}
 use Rattle.std.proofs.Math.Option.{Option, none, some}
-use Rattle.model.specs.Words.{if◌then◌else◌, ◌≤?◌, Checked, Checked.fine, Checked.refused}
+use Rattle.model.specs.Words.{when◌then◌else◌, ◌≤?◌, Checked, Checked.fine, Checked.refused}
 use Rattle.model.specs.Pitch.{semitones}
 use Rattle.model.specs.Bytes.{◌!◌}
 use Rattle.model.specs.Listing.{Line, Listing, lines_of}
@@ -17,7 +17,7 @@ closed field byte = field ++ byte ∷ []
 
 -- the line that printed numbers say
 unfoldable pub channel_said : Bool → ℕ → Option ℕ
-channel_said voiced channel = if voiced then some channel else none
+channel_said voiced channel = when voiced then some channel else none
 
 unfoldable pub said : Printed → Line
 said printed =
@@ -32,7 +32,7 @@ said printed =
 
 -- a pitch as semitones up less semitones down
 unfoldable pub octaves_up : ℕ → ℕ
-octaves_up shift = if shift ≤? 0x04 then shift else 0
+octaves_up shift = when shift ≤? 0x04 then shift else 0
 
 unfoldable pub semitones_up : ℕ → ℕ → ℕ
 semitones_up key shift = 12 * (key / 16) + key % 16 + 12 * octaves_up shift

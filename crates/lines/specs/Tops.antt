@@ -1,7 +1,7 @@
 -- The chunks of a file as the reading head meets them, and the first readable track.
 use Rattle.std.specs.Prelude.{ℕ, ◌+◌, ◌-◌, List, [], ◌∷◌, length}
 use Rattle.std.proofs.Math.Option.{Option, none, some}
-use Rattle.model.specs.Words.{if◌then◌else◌, ◌<?◌, ◌≤?◌, Checked, Checked.fine, Checked.refused}
+use Rattle.model.specs.Words.{when◌then◌else◌, ◌<?◌, ◌≤?◌, Checked, Checked.fine, Checked.refused}
 use Rattle.model.specs.Bytes.{◌!◌}
 use Rattle.model.specs.TimeBase.{milliseconds}
 use Rattle.model.specs.Chunk.{read_chunk}
@@ -23,7 +23,7 @@ use Rattle.lines.specs.Fields.{play_listed}
 unfoldable pub voiced_top : List ℕ → ℕ → ℕ → ℕ → Checked (Option Voice) → ReadTop
 voiced_top s at size next (fine none) = Leaf next
 voiced_top s at size next (fine (some voice)) =
-    if size <? 6 then Cut else
+    when size <? 6 then Cut else
     Track (milliseconds (s ! (at + 8 + place_of_d voice)))
 voiced_top s at size next (refused number place) = Cut
 
@@ -34,9 +34,9 @@ chunk_top s at chunk.Cut = Cut
 -- what stands at a place of a file's list, which ends before the check code
 unfoldable pub top_met : List ℕ → ℕ → ReadTop
 top_met s at =
-    if 65536 <? length s then Cut else
-    if length s <? 10 then Cut else
-    if length s - 2 ≤? at then Cut else
+    when 65536 <? length s then Cut else
+    when length s <? 10 then Cut else
+    when length s - 2 ≤? at then Cut else
     chunk_top s at (read_chunk s (length s - 2) at)
 
 -- the first readable track, where the first chunk has the row number k

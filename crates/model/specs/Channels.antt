@@ -1,6 +1,6 @@
 -- Ticket 4: what the four channels have, stepped by each message that is played, in played order.
 use Rattle.std.specs.Prelude.{ℕ, List, [], ◌∷◌, get_or, set}
-use Rattle.model.specs.Words.{if◌then◌else◌, ◌≡?◌}
+use Rattle.model.specs.Words.{when◌then◌else◌, ◌≡?◌}
 use Rattle.model.specs.declared.Channel.{Channel}
 use Rattle.model.specs.declared.Event.{Event}
 use Rattle.model.specs.declared.Event.TheVariants.{Nop, Note, Wave, Control, Exclusive}
@@ -19,9 +19,9 @@ channel_at channels number = get_or channels number at_first
 -- octave shift (5) counts at once.
 unfoldable pub channel_after : Channel → ℕ → ℕ → Channel
 channel_after channel kind value =
-    if kind ≡? 3 then record { bank = channel.bank; shift = channel.shift; bank_in_force = channel.bank } else
-    if kind ≡? 4 then record { bank = value; shift = channel.shift; bank_in_force = channel.bank_in_force } else
-    if kind ≡? 5 then record { bank = channel.bank; shift = value; bank_in_force = channel.bank_in_force } else
+    when kind ≡? 3 then record { bank = channel.bank; shift = channel.shift; bank_in_force = channel.bank } else
+    when kind ≡? 4 then record { bank = value; shift = channel.shift; bank_in_force = channel.bank_in_force } else
+    when kind ≡? 5 then record { bank = channel.bank; shift = value; bank_in_force = channel.bank_in_force } else
     channel
 
 -- the step: a control changes what its own channel has

@@ -3,7 +3,7 @@
 -- letters of its order list and the source of its exclusives. The counts are those of entries, items, letters and source bytes; where one runs past its
 -- table's end, it means what is left. A track is there where its four counts and seven bytes are.
 use Rattle.std.specs.Prelude.{ℕ, zero, suc, ◌+◌, ◌*◌, List, [], ◌∷◌, map, length, take, drop}
-use Rattle.model.specs.Words.{if◌then◌else◌, ◌and◌, ◌or◌, ◌<?◌, ◌≡?◌, any, Checked, Checked.fine, Checked.refused, passed, ◌>>=◌, ◌>>◌, told_at}
+use Rattle.model.specs.Words.{when◌then◌else◌, ◌and◌, ◌or◌, ◌<?◌, ◌≡?◌, any, Checked, Checked.fine, Checked.refused, passed, ◌>>=◌, ◌>>◌, told_at}
 use Rattle.model.specs.Bytes.{◌!◌, part}
 use Rattle.model.specs.Track.{fixed_fits, points_of}
 use Rattle.model.specs.Plain.{bytes_of}
@@ -43,7 +43,7 @@ first_given numbers bytes =
 unfoldable pub given_from : ℕ → List ℕ → List ℕ → List Given
 given_from zero numbers bytes = []
 given_from (suc turns) numbers bytes =
-    if (length numbers <? 4) or (length bytes <? 7) then [] else
+    when (length numbers <? 4) or (length bytes <? 7) then [] else
     first_given numbers bytes ∷ given_from turns (drop (numbers_taken numbers) numbers) (drop (bytes_taken numbers) bytes)
 
 -- every track takes a number at least
@@ -54,12 +54,12 @@ given_in numbers bytes = given_from (length numbers) numbers (drop 5 bytes)
 unfoldable pub once_from : List ℕ → ℕ → List Given → Checked (Unit {0})
 once_from before index [] = passed
 once_from before index (track ∷ tracks) =
-    if any (λ earlier. earlier ≡? track.number) before then refused 6 index else
+    when any (λ earlier. earlier ≡? track.number) before then refused 6 index else
     once_from (track.number ∷ before) (index + 1) tracks
 
 -- 8, for any other format type too
 unfoldable pub fixed_given : List ℕ → Checked (Unit {0})
-fixed_given fixed = if (fixed ! 0 ≡? 0) and fixed_fits Score fixed 0 then passed else refused 8 0
+fixed_given fixed = when (fixed ! 0 ≡? 0) and fixed_fits Score fixed 0 then passed else refused 8 0
 
 -- One track: 8; 11 and 21 to 23; 12; then 13 and 14 as in the reader, on the body that the items make.
 unfoldable pub track_given : Given → Checked ScoreTrack
@@ -82,6 +82,6 @@ tracks_from index (given ∷ rest) = do
 unfoldable pub arrangement_of : List ℕ → List ℕ → Checked Arrangement
 arrangement_of numbers bytes = do
   once_from [] 0 (given_in numbers bytes)
-  if length (given_in numbers bytes) ≡? 0 then refused 7 0 else passed
+  when length (given_in numbers bytes) ≡? 0 then refused 7 0 else passed
   tracks ← tracks_from 0 (given_in numbers bytes)
   fine (record { contents = take 5 bytes; tracks = tracks })

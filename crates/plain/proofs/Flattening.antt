@@ -10,7 +10,7 @@ use mathlib.Core.Path.{◌≡◌, refl, sym, ◌∙◌, ap₂}
 use lib.ListN.{length}
 use native.Mathlib.Omega.{arith}
 use borrow.Author.Tests.{le-ltb, lt-ltb, ltb-true, ltb-false}
-use Rattle.model.specs.Words.{if◌then◌else◌, ◌or◌, ◌<?◌, Checked, Checked.fine, Checked.refused, ◌>>=◌, ◌>>◌, passed, Placed}
+use Rattle.model.specs.Words.{when◌then◌else◌, ◌or◌, ◌<?◌, Checked, Checked.fine, Checked.refused, ◌>>=◌, ◌>>◌, passed, Placed}
 use Rattle.model.specs.Item.{Item}
 use Rattle.model.specs.Seek.{Entry, order_list}
 use Rattle.model.specs.Play.{Section}
@@ -44,15 +44,15 @@ unfolding ◌>>=◌
 bind_was (fine a) rest number place e = inr (a, refl, e)
 bind_was (refused m p) rest number place e = let a : m ≡ number = cc in let b : p ≡ place = cc in inl (rw (a, b) refl)
 
-test_was : {A : Type 0} (b : Bool) (m p : ℕ) (a : A) (number place : ℕ) → ((if b then refused m p else passed) >> fine a) ≡ refused number place
+test_was : {A : Type 0} (b : Bool) (m p : ℕ) (a : A) (number place : ℕ) → ((when b then refused m p else passed) >> fine a) ≡ refused number place
     → (b ≡ true) × (number ≡ m) × (place ≡ p)
-unfolding if◌then◌else◌ ◌>>◌
+unfolding when◌then◌else◌ ◌>>◌
 test_was true m p a number place e = (refl, cc, cc)
 test_was false m p a number place e = let z : ◌≡◌ {A = ℕ} 0 1 = cc in absurd (omega arith)
 
-test_passed : (a b : Bool) (m p : ℕ) (bytes other : List ℕ) → ((if a or b then refused m p else passed) >> fine bytes) ≡ fine other
+test_passed : (a b : Bool) (m p : ℕ) (bytes other : List ℕ) → ((when a or b then refused m p else passed) >> fine bytes) ≡ fine other
     → (a ≡ false) × (b ≡ false) × (bytes ≡ other)
-unfolding if◌then◌else◌ ◌or◌ ◌>>◌
+unfolding when◌then◌else◌ ◌or◌ ◌>>◌
 test_passed true b m p bytes other e = let z : ◌≡◌ {A = ℕ} 0 1 = cc in absurd (omega arith)
 test_passed false true m p bytes other e = let z : ◌≡◌ {A = ℕ} 0 1 = cc in absurd (omega arith)
 test_passed false false m p bytes other e = (refl, refl, cc)
@@ -99,7 +99,7 @@ module _ (buffer : List ℕ) (n row room : ℕ) where
   -- FLATTENED to the plain form, where that fits
   pub flattened : (performance : Performance) → performed buffer n row ≡ fine performance → length (plain_of performance) ≤ 65536
       → length (plain_of performance) ≤ room → flatten_of buffer n row room ≡ fine (plain_of performance)
-  unfolding flatten_of ◌>>=◌ ◌>>◌ ◌or◌ if◌then◌else◌
+  unfolding flatten_of ◌>>=◌ ◌>>◌ ◌or◌ when◌then◌else◌
   flattened performance e short fits = rw e (simp le-ltb)
 
   pub flattened_only_so : (bytes : List ℕ) → flatten_of buffer n row room ≡ fine bytes
@@ -134,7 +134,7 @@ module _ (buffer : List ℕ) (n row room : ℕ) where
 
   refused_long : (performance : Performance) → performed buffer n row ≡ fine performance → TooLong room performance
       → flatten_of buffer n row room ≡ refused 18 performance.track.header
-  unfolding flatten_of ◌>>=◌ ◌>>◌ if◌then◌else◌
+  unfolding flatten_of ◌>>=◌ ◌>>◌ when◌then◌else◌
   refused_long performance e long = rw (e, too_long performance long) refl
 
   pub refused_so : (number place : ℕ) → Refusal buffer n row room number place → flatten_of buffer n row room ≡ refused number place

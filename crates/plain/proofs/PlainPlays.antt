@@ -8,7 +8,7 @@ use mathlib.Core.Path.{◌≡◌, refl, sym, ◌∙◌, ap}
 use lib.ListN.{replicate}
 use native.Mathlib.Omega.{arith}
 use borrow.Author.Tests.{eqb-true}
-use Rattle.model.specs.Words.{if◌then◌else◌, ◌≡?◌, through, sum, Placed}
+use Rattle.model.specs.Words.{when◌then◌else◌, ◌≡?◌, through, sum, Placed}
 use Rattle.model.specs.Item.{Item, Item.timed, Item.end_mark, duration_of, is_mark, lasting}
 use Rattle.model.specs.Play.{At, onsets_after, with_message, messages_of}
 use Rattle.model.specs.Plain.{Format, times, left, waits, rest, plain_after}
@@ -59,7 +59,7 @@ module _ (E : Type 0) (format : Format E) (some : 0 < format.longest) where
   waits_last (suc count) items = omega (arith, waits_last count items)
 
   rest_lasts : (gap : ℕ) → durations (rest format gap ++ (end_mark ∷ [])) ≡ gap
-  unfolding rest waits if◌then◌else◌ sum duration_of
+  unfolding rest waits when◌then◌else◌ sum duration_of
   rest_lasts gap =
       let count = times format.longest gap in
       let over = left format.longest gap in
@@ -108,7 +108,7 @@ module _ (E : Type 0) (format : Format E) (some : 0 < format.longest) where
 
     -- a NOP takes its time
     nop_heard : (past duration : ℕ) (items : List (Item E)) → heard past (timed duration format.nop ∷ items) ≡ heard (past + duration) items
-    unfolding with_message duration_of if◌then◌else◌
+    unfolding with_message duration_of when◌then◌else◌
     nop_heard past duration items = rw silent
 
     waits_heard : (count past : ℕ) (items : List (Item E)) → heard past (replicate count wait ++ items) ≡ heard (past + count * format.longest) items
@@ -123,7 +123,7 @@ module _ (E : Type 0) (format : Format E) (some : 0 < format.longest) where
 
     -- the rest before the end
     rest_heard : (past gap : ℕ) → heard past (rest format gap ++ (end_mark ∷ [])) ≡ []
-    unfolding rest waits if◌then◌else◌
+    unfolding rest waits when◌then◌else◌
     rest_heard past gap =
         let count = times format.longest gap in
         let over = left format.longest gap in
@@ -139,7 +139,7 @@ module _ (E : Type 0) (format : Format E) (some : 0 < format.longest) where
     message_heard : (past : ℕ) (at : At E) (items : List (Item E)) → past ≤ at.step → is_message at.event ≡ true
         → heard past (waits format (at.step - past) ++ (timed (left format.longest (at.step - past)) at.event ∷ items))
         ≡ at ∷ heard at.step items
-    unfolding waits with_message duration_of if◌then◌else◌
+    unfolding waits with_message duration_of when◌then◌else◌
     message_heard past at items h m =
         let gap = at.step - past in
         let all = gap_is format.longest gap some in

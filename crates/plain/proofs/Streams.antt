@@ -3,7 +3,7 @@ use Prim.Native.Nat.{ℕ, ◌+◌}
 use mathlib.Core.List.{List, [], ◌∷◌, map}
 use mathlib.Core.Path.{◌≡◌, refl, ◌∙◌, ap, ap₂}
 use native.Mathlib.Omega.{arith}
-use Rattle.model.specs.Words.{if◌then◌else◌, through, sum, Placed}
+use Rattle.model.specs.Words.{when◌then◌else◌, through, sum, Placed}
 use Rattle.model.specs.Item.{Item, Item.timed, Item.end_mark, duration_of, is_mark, lasting}
 use Rattle.model.specs.Play.{At, onsets_after, with_message, messages_of, retold}
 use Rattle.model.specs.Word.{is_message}
@@ -34,7 +34,7 @@ told_items body items = map (λ item. record { place = item.place; what = conten
 module _ (body : List ℕ) where
   with_told : (onset : ℕ) (item : Item Event) (messages : List (At Event))
       → map (told body) (with_message is_message onset item messages) ≡ with_message is_said onset (content_in body item) (map (told body) messages)
-  unfolding with_message content_in if◌then◌else◌
+  unfolding with_message content_in when◌then◌else◌
   with_told onset (timed duration event) messages = rw (said_so body event) (by_test (is_message event) (λ t. simp t) (λ t. simp t))
   with_told onset end_mark messages = refl
 
@@ -62,7 +62,7 @@ module _ (body : List ℕ) where
   lasting_told (item ∷ items) = omega (arith, duration_told item.what, lasting_told items)
 
   up_to_mark_told : (items : Items) → told_items body (to_mark items) ≡ to_mark (told_items body items)
-  unfolding through if◌then◌else◌
+  unfolding through when◌then◌else◌
   up_to_mark_told [] = refl
   up_to_mark_told (item ∷ items) =
       rw (mark_told item.what)

@@ -8,7 +8,7 @@ use lib.ListN.{length}
 use native.Mathlib.Omega.{arith}
 use mir.Val.{Fits}
 use mir.Syntax.{w64}
-use Rattle.model.specs.Words.{◌≡?◌, Placed, Checked, Checked.fine, Checked.refused, passed, ◌>>◌, counted_from, all_pass, if◌then◌else◌}
+use Rattle.model.specs.Words.{◌≡?◌, Placed, Checked, Checked.fine, Checked.refused, passed, ◌>>◌, counted_from, all_pass, when◌then◌else◌}
 use Rattle.model.specs.Bytes.{◌!◌, part}
 use Rattle.model.specs.Chunk.{Chunk, body_bytes, found_chunk}
 use Rattle.model.specs.Item.{Item, is_fine, found, body_of, items_of}
@@ -77,7 +77,7 @@ sought_there phrases items size base seek entries e =
     }
 
 sought_nowhere : (phrases : Bool) (items : List (Placed (Item Event))) (size : ℕ) → Sought phrases items size [] []
-unfolding entries_said if◌then◌else◌
+unfolding entries_said when◌then◌else◌
 sought_nowhere phrases items size = record { formed = λ h. absurd (omega arith); holds = said_none phrases items size; are = refl }
 
 -- the seek chunk that a list names

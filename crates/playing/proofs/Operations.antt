@@ -5,7 +5,7 @@ use mathlib.Core.Bool.{Bool, true}
 use mathlib.Core.List.{List}
 use mathlib.Core.Option.{Option, none, some}
 use lib.ListN.{length, take}
-use Rattle.model.specs.Words.{if◌then◌else◌, ◌<?◌, Checked, Checked.fine, Checked.refused, passed, ◌>>=◌, ◌>>◌}
+use Rattle.model.specs.Words.{when◌then◌else◌, ◌<?◌, Checked, Checked.fine, Checked.refused, passed, ◌>>=◌, ◌>>◌}
 use Rattle.model.specs.Item.{is_fine}
 use Rattle.model.specs.Play.{Section, Tune}
 use Rattle.model.specs.Order.{play_order, tune_in}
@@ -69,11 +69,11 @@ pub ruleset bodies_played = (bodies_ready, bodies_answer, bodies_steps, bodies_w
 -- an order, and room for what it plays
 abbrev roomy : ℕ → Performance → Checked (Tune Event)
 roomy room performance =
-    (if room <? length performance.tune.messages then refused 15 performance.track.header else passed) >> fine performance.tune
+    (when room <? length performance.tune.messages then refused 15 performance.track.header else passed) >> fine performance.tune
 
 sections_played_lem : (track : Track) (room : ℕ) (sections : List Section)
     → roomy room (record { track = track; tune = tune_in track sections }) ≡ played track.header room track.items (some sections)
-unfolding played fitted tune_in ◌>>◌ if◌then◌else◌
+unfolding played fitted tune_in ◌>>◌ when◌then◌else◌
 sections_played_lem track room sections = by_test (room <? length (tune_in track sections).messages) (λ h. simp h) (λ h. simp h)
 
 order_played : (track : Track) (room : ℕ) (o : Option (List Section)) → (ordered track o >>= roomy room) ≡ played track.header room track.items o

@@ -9,7 +9,7 @@ use lib.Seq.{sets, sets-eq}
 use native.Mathlib.Nat.{zero-add, add-zero}
 use native.Mathlib.Omega.{arith}
 use borrow.Author.Tests.{lt-ltb, le-ltb}
-use Rattle.model.specs.Words.{sum, ◌otherwise◌, Checked, Checked.fine, Checked.refused, if◌then◌else◌}
+use Rattle.model.specs.Words.{sum, ◌otherwise◌, Checked, Checked.fine, Checked.refused, when◌then◌else◌}
 use Rattle.model.specs.Item.{items_of}
 use Rattle.model.specs.Seek.{start_point, stop_point}
 use Rattle.model.specs.Play.{At, Section, Tune, onsets_after, sounding, lasts_in, played_from, all_played, tune_of}
@@ -54,11 +54,11 @@ module _ (o : Checked (Tune Event)) (header room : ℕ) (tune : Tune Event) (is 
   counted = many ∙ ap length are
 
   pub tune_short : room < count → o ≡ refused 15 header
-  unfolding fitted if◌then◌else◌
+  unfolding fitted when◌then◌else◌
   tune_short h = let short : room < length tune.messages = omega (arith, counted) in is ∙ simp lt-ltb
 
   tune_fits : count ≤ room → o ≡ fine tune
-  unfolding fitted if◌then◌else◌
+  unfolding fitted when◌then◌else◌
   tune_fits h = let enough : length tune.messages ≤ room = omega (arith, counted) in is ∙ simp le-ltb
 
   pub tune_answer : (end : ℕ) → end ≡ tune.end → count ≤ room → play.Rows count end ≡ play_answer o

@@ -5,7 +5,7 @@ use mathlib.Core.Bool.{Bool, true, false}
 use mathlib.Core.List.{List, [], ◌∷◌}
 use mathlib.Core.Option.{Option, none, some}
 use native.Mathlib.Omega.{arith}
-use Rattle.model.specs.Words.{if◌then◌else◌, ◌or_else◌, first_said, Checked, Checked.fine, Checked.refused, passed, ◌>>◌, all_pass}
+use Rattle.model.specs.Words.{when◌then◌else◌, ◌or_else◌, first_said, Checked, Checked.fine, Checked.refused, passed, ◌>>◌, all_pass}
 
 -- a check after another, where both pass
 pub both_pass : (a b : Checked (Unit {0})) → (a >> b) ≡ passed → (a ≡ passed) × (b ≡ passed)
@@ -31,7 +31,7 @@ said_by test says (entry ∷ entries) b all e =
     first_by test says entry entries b (said_by test says entries b) (test entry) refl (says entry) refl all e
 
 -- an entry that keeps the rules
-pub kept : (holds : Bool) (place : ℕ) → (if holds then passed else refused 13 place) ≡ passed → holds ≡ true
-unfolding if◌then◌else◌
+pub kept : (holds : Bool) (place : ℕ) → (when holds then passed else refused 13 place) ≡ passed → holds ≡ true
+unfolding when◌then◌else◌
 kept true place e = refl
 kept false place e = let z : ◌≡◌ {A = ℕ} 0 1 = cc in absurd (omega arith)

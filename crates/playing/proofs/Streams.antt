@@ -7,7 +7,7 @@ use mathlib.Core.Option.{Option, none, some}
 use lib.ListN.{length}
 use native.Mathlib.Omega.{arith}
 use borrow.Author.Tests.{ltb-false, eq-eqb, ne_eqb, not-true}
-use Rattle.model.specs.Words.{◌and◌, ◌<?◌, is_some, ◌otherwise◌, first_said, Placed, passed, if◌then◌else◌}
+use Rattle.model.specs.Words.{◌and◌, ◌<?◌, is_some, ◌otherwise◌, first_said, Placed, passed, when◌then◌else◌}
 use Rattle.model.specs.Item.{Item, is_fine, found, items_of}
 use Rattle.model.specs.Seek.{Entry, Entry.start, Entry.stop, Entry.phrase, Entry.order, seek_of, start_in, stop_in, start_point, stop_point, order_list, order_place, points_said}
 use Rattle.model.specs.Points.{is_address, point_holds, points_hold}
@@ -29,7 +29,7 @@ use Rattle.playing.specs.Performing.{entries_said, Formed, Ready}
 module _ (phrases : Bool) (seek : List ℕ) where
   pub points_none : length seek ≡ 0
       → record { starts = false; start = 0; stops = false; stop = 0; ordered = false; order = 0; letters = 0 } ≡ points_said (entries_said phrases seek)
-  unfolding entries_said if◌then◌else◌ points_said start_point stop_point order_list order_place first_said is_some ◌otherwise◌
+  unfolding entries_said when◌then◌else◌ points_said start_point stop_point order_list order_place first_said is_some ◌otherwise◌
   points_none h = simp eq-eqb
 
   module _ (some_bytes : length seek ≡ 0 → ⊥) where
@@ -37,7 +37,7 @@ module _ (phrases : Bool) (seek : List ℕ) where
     points_formed formed = formed (omega arith)
 
     pub points_some : (points : Points) → points ≡ points_said (found (seek_of (point_width phrases) seek)) → points ≡ points_said (entries_said phrases seek)
-    unfolding entries_said if◌then◌else◌
+    unfolding entries_said when◌then◌else◌
     points_some points e = e ∙ ap points_said (sym (simp ne_eqb))
 
 pub ruleset saying = (points_none, points_formed, points_some)

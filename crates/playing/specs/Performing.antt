@@ -2,7 +2,7 @@
 -- what a play order comes to.
 use Rattle.std.specs.Prelude.{ℕ, ◌+◌, ◌<◌, ◌≤◌, ◌≡◌, Bool, true, List, [], ◌∷◌, ◌++◌, length, take, get_or}
 use Rattle.std.proofs.Math.Option.{Option, none, some}
-use Rattle.model.specs.Words.{if◌then◌else◌, ◌<?◌, ◌≡?◌, through, is_some, Placed, Checked, Checked.fine, Checked.refused, passed, ◌>>=◌, ◌>>◌}
+use Rattle.model.specs.Words.{when◌then◌else◌, ◌<?◌, ◌≡?◌, through, is_some, Placed, Checked, Checked.fine, Checked.refused, passed, ◌>>=◌, ◌>>◌}
 use Rattle.model.specs.Bytes.{◌!◌, part}
 use Rattle.model.specs.Item.{is_fine, found, body_of, items_of}
 use Rattle.model.specs.Seek.{Entry, seek_of, phrase_of}
@@ -28,7 +28,7 @@ use Rattle.sections.specs.Taking.{AllBytes}
 
 -- the entries of a seek body; a track without a seek chunk has none
 unfoldable pub entries_said : Bool → List ℕ → List (Placed Entry)
-entries_said phrases seek = if length seek ≡? 0 then [] else found (seek_of (point_width phrases) seek)
+entries_said phrases seek = when length seek ≡? 0 then [] else found (seek_of (point_width phrases) seek)
 
 -- a seek body, where there is one, has good form
 abbrev pub Formed : Bool → List ℕ → Type 0
@@ -79,7 +79,7 @@ Opens s none opened.Nowhere = Unit
 
 -- where the letters that are played end in the list
 unfoldable pub last_position : Points → ℕ
-last_position points = if points.stops then points.stop else points.letters
+last_position points = when points.stops then points.stop else points.letters
 
 -- an order list stands in its seek body, and its points are positions in it
 pub record Listed (seek : List ℕ) (points : Points) : Type 0 where
@@ -168,7 +168,7 @@ tune_together items spans letters = record { messages = rows_together items span
 
 -- PLAYED: 17 where there is no order, then 15, at the track's header
 unfoldable pub fitted : ℕ → ℕ → Tune Event → Checked (Tune Event)
-fitted header room tune = if room <? length tune.messages then refused 15 header else fine tune
+fitted header room tune = when room <? length tune.messages then refused 15 header else fine tune
 
 unfoldable pub played : ℕ → ℕ → Items → Option (List Section) → Checked (Tune Event)
 played header room items none = refused 17 header
@@ -189,5 +189,5 @@ row_performed outcome row = do
 unfoldable pub row_played : ℕ → Checked File → ℕ → Checked (Tune Event)
 row_played room outcome row = do
   performance ← row_performed outcome row
-  if room <? length performance.tune.messages then refused 15 performance.track.header else passed
+  when room <? length performance.tune.messages then refused 15 performance.track.header else passed
   fine performance.tune

@@ -8,7 +8,7 @@ use mathlib.Core.Option.{Option, none, some}
 use mathlib.Core.Path.{◌≡◌, refl, subst}
 use lib.ListN.{length, take}
 use native.Mathlib.Omega.{arith}
-use Rattle.model.specs.Words.{if◌then◌else◌, Checked, Checked.fine, Checked.refused, ◌>>=◌, ◌>>◌, passed, counted_from, each, all_pass, Step, Step.met, Step.stuck, walk_to, in_turn, Placed}
+use Rattle.model.specs.Words.{when◌then◌else◌, Checked, Checked.fine, Checked.refused, ◌>>=◌, ◌>>◌, passed, counted_from, each, all_pass, Step, Step.met, Step.stuck, walk_to, in_turn, Placed}
 use Rattle.model.specs.Item.{Item, item_at, item_met, item_step, body_of, message_met, setup_step, setup_message_at, setup_of}
 use Rattle.model.specs.Chunk.{Chunk, read_chunk, chunk_met, chunk_step, allowed_once, chunk_list}
 use Rattle.model.specs.Seek.{Entry, Entry.start, Entry.stop, Entry.phrase, Entry.order, entry_at, followed, entry_met, entry_step, in_order, seek_of}
@@ -58,7 +58,7 @@ unfolding counted_from
 low_counted base (fine a) l = tt
 low_counted base (refused number place) l = l
 
-low_test : {A : Type 0} (b : Bool) (number place : ℕ) (rest : Checked A) → Read number → Low rest → Low (if b then refused number place else rest)
+low_test : {A : Type 0} (b : Bool) (number place : ℕ) (rest : Checked A) → Read number → Low rest → Low (when b then refused number place else rest)
 low_test b number place rest r l = if_all Low b (refused number place) rest (λ h. r) (λ h. l)
 
 module _ {A : Type 0} where

@@ -6,7 +6,7 @@ use mathlib.Core.List.{List}
 use lib.ListN.{length}
 use native.Mathlib.Omega.{arith}
 use borrow.Author.Tests.{eq-eqb, ne_eqb, not-true, not-false}
-use Rattle.model.specs.Words.{if◌then◌else◌, ◌and◌, ◌or◌, ◌<?◌, ◌≤?◌, ◌≡?◌, Checked.refused, passed, ◌>>=◌, ◌>>◌}
+use Rattle.model.specs.Words.{when◌then◌else◌, ◌and◌, ◌or◌, ◌<?◌, ◌≤?◌, ◌≡?◌, Checked.refused, passed, ◌>>=◌, ◌>>◌}
 use Rattle.model.specs.Bytes.{number, MMMD, CNTI}
 use Rattle.model.specs.Item.{is_fine, found, check_answer}
 use Rattle.model.specs.Chunk.{Chunk, read_chunk, chunk_list}
@@ -87,8 +87,8 @@ module _ (l : ListOf) (s : List ℕ) (start end : ℕ) (r : Check) (from : start
 -- the stages of the frame
 pub frame_stages : (s : List ℕ) (z : Check) → z
     ≡ check_answer
-    ((if (length s <? 10) or not (number 4 s 0 ≡? MMMD) then refused 2 0 else passed)
-    >> ((if number 4 s 4 + 8 ≡? length s then passed else refused 3 4)
+    ((when (length s <? 10) or not (number 4 s 0 ≡? MMMD) then refused 2 0 else passed)
+    >> ((when number 4 s 4 + 8 ≡? length s then passed else refused 3 4)
     >> (chunk_list (is_allowed list.File) s 8 (length s - 2) >>= λ chunks. contents_hold (length s - 2) chunks)))
     → z ≡ check_answer (frame_of s)
 unfolding frame_of contents_hold

@@ -7,7 +7,7 @@ use mathlib.Core.Option.{Option, none, some}
 use lib.ListN.{length}
 use native.Mathlib.Nat.{add-zero, zero-add}
 use native.Mathlib.Omega.{arith}
-use Rattle.model.specs.Words.{if◌then◌else◌, Checked, Checked.fine, Checked.refused, ◌>>=◌}
+use Rattle.model.specs.Words.{when◌then◌else◌, Checked, Checked.fine, Checked.refused, ◌>>=◌}
 use Rattle.model.specs.Item.{is_fine, found, check_answer}
 use Rattle.model.specs.Chunk.{Chunk, read_chunk, chunk_step}
 use Rattle.model.specs.Track.{Track, is_allowed, fixed_holds, voice_of, track_of}
@@ -34,12 +34,12 @@ use Rattle.reading.specs.Stages.{placed, voice_answer, top_rows, top_answer}
 use Rattle.reading.proofs.TrackMade.{track_made}
 
 module _ (b : Bool) (x y : Checked (Option Voice)) (z : FoundVoice) where
-  pub voice_yes : b ≡ true → z ≡ voice_answer x → z ≡ voice_answer (if b then x else y)
-  unfolding if◌then◌else◌
+  pub voice_yes : b ≡ true → z ≡ voice_answer x → z ≡ voice_answer (when b then x else y)
+  unfolding when◌then◌else◌
   voice_yes h e = rw h e
 
-  pub voice_no : b ≡ false → z ≡ voice_answer y → z ≡ voice_answer (if b then x else y)
-  unfolding if◌then◌else◌
+  pub voice_no : b ≡ false → z ≡ voice_answer y → z ≡ voice_answer (when b then x else y)
+  unfolding when◌then◌else◌
   voice_no h e = rw h e
 
 pub voice_refused : (c : Checked (Option Voice)) (number place : ℕ) → c ≡ refused number place → voice.Refused number place ≡ voice_answer c

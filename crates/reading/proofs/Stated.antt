@@ -7,12 +7,12 @@ use mathlib.Core.List.{List}
 use lib.ListN.{length, take, length-take}
 use native.Mathlib.Omega.{arith}
 use borrow.Author.Tests.{lt-ltb, le-ltb}
-use Rattle.model.specs.Words.{if◌then◌else◌, ◌or◌, ◌<?◌, Checked.refused, ◌>>◌}
+use Rattle.model.specs.Words.{when◌then◌else◌, ◌or◌, ◌<?◌, Checked.refused, ◌>>◌}
 use Rattle.model.specs.File.{contents_of, file_of}
 
 module _ (buffer : List ℕ) (n : ℕ) where
   unstated : ((length buffer <? n) or (65536 <? n)) ≡ true → file_of buffer n ≡ refused 1 0
-  unfolding file_of ◌>>◌ if◌then◌else◌
+  unfolding file_of ◌>>◌ when◌then◌else◌
   unstated h = rw h
 
   pub stated_past : length buffer < n → file_of buffer n ≡ refused 1 0
@@ -25,7 +25,7 @@ module _ (buffer : List ℕ) (n : ℕ) where
 
   module _ (h : n ≤ length buffer) (k : n ≤ 65536) where
     pub stated_within : file_of buffer n ≡ contents_of (take n buffer)
-    unfolding file_of ◌>>◌ if◌then◌else◌ ◌or◌
+    unfolding file_of ◌>>◌ when◌then◌else◌ ◌or◌
     stated_within = simp le-ltb
 
     pub stated_small : length (take n buffer) ≤ 65536

@@ -8,7 +8,7 @@ use lib.ListN.{length, take}
 use lib.Seq.{length-take-le}
 use native.Mathlib.Omega.{arith}
 use borrow.Author.Tests.{le-leb, lt-leb, le-ltb, lt-ltb, ltb-true, ltb-false}
-use Rattle.model.specs.Words.{if◌then◌else◌, ◌<?◌, keep, Checked.fine, each}
+use Rattle.model.specs.Words.{when◌then◌else◌, ◌<?◌, keep, Checked.fine, each}
 use Rattle.model.specs.Chunk.{Chunk, chunk_at, chunk_step}
 use Rattle.model.specs.File.{File, Top, Top.leaf, Top.readable, top_of, contents_of, file_of}
 use Rattle.model.specs.Stretch.{Stretch, header_of, leaf_body, fixed_field, check_code_of, leaves, stretches_in, stretches_of, Tile, holds}
@@ -72,11 +72,11 @@ abbrev pub how_many : ℕ → List Stretch → ℕ
 how_many i stretches = length (keep (holds i) stretches)
 
 held : (i : ℕ) (one : Stretch) (rest : List Stretch) → holds i one ≡ true → how_many i (one ∷ rest) ≡ suc (how_many i rest)
-unfolding keep if◌then◌else◌
+unfolding keep when◌then◌else◌
 held i one rest h = rw h
 
 not_held : (i : ℕ) (one : Stretch) (rest : List Stretch) → holds i one ≡ false → how_many i (one ∷ rest) ≡ how_many i rest
-unfolding keep if◌then◌else◌
+unfolding keep when◌then◌else◌
 not_held i one rest h = rw h
 
 holds_before : (i : ℕ) (one : Stretch) → i < one.place → holds i one ≡ false

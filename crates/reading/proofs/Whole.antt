@@ -8,7 +8,7 @@ use lib.Seq.{sets, sets-eq}
 use native.Mathlib.Nat.{zero-add}
 use native.Mathlib.Omega.{arith}
 use borrow.Author.Tests.{lt-ltb, le-ltb}
-use Rattle.model.specs.Words.{if◌then◌else◌, Checked, Checked.fine, Checked.refused, ◌>>=◌, ◌>>◌}
+use Rattle.model.specs.Words.{when◌then◌else◌, Checked, Checked.fine, Checked.refused, ◌>>=◌, ◌>>◌}
 use Rattle.model.specs.Item.{is_fine}
 use Rattle.model.specs.File.{File, contents_of, file_of, rows_of, numbers_of}
 use Rattle.model.specs.Answer.{written_over, memory_after, read_of, read_answer, read_table}
@@ -37,7 +37,7 @@ room_refused room (fine file) number place e = let z : ◌≡◌ {A = ℕ} 0 1 =
 room_refused room (refused n p) number place e = let a : n ≡ number = cc in let b : p ≡ place = cc in rw (a, b)
 
 room_short : (room : ℕ) (c : Checked File) (count : ℕ) → file_answer c ≡ counted.Rows count → room / 4 < count → with_room room c ≡ refused 15 0
-unfolding with_room file_answer ◌>>=◌ ◌>>◌ if◌then◌else◌
+unfolding with_room file_answer ◌>>=◌ ◌>>◌ when◌then◌else◌
 room_short room (fine file) count e h =
     let n : length (rows_of file) ≡ count = cc in
     let short : room / 4 < length (rows_of file) = omega arith in
@@ -51,7 +51,7 @@ pub record Roomy (room : ℕ) (c : Checked File) (count : ℕ) : Type 0 where
   pub is : with_room room c ≡ c
 
 roomy : (room : ℕ) (c : Checked File) (count : ℕ) → file_answer c ≡ counted.Rows count → count ≤ room / 4 → Roomy room c count
-unfolding with_room file_answer file_rows is_fine ◌>>=◌ ◌>>◌ if◌then◌else◌
+unfolding with_room file_answer file_rows is_fine ◌>>=◌ ◌>>◌ when◌then◌else◌
 roomy room (fine file) count e h =
     let n : length (rows_of file) ≡ count = cc in
     let enough : length (rows_of file) ≤ room / 4 = omega arith in

@@ -2,7 +2,7 @@
 -- rows what they accept brings.
 use Rattle.std.specs.Prelude.{ℕ, ◌+◌, ◌/◌, ◌≤◌, List, [], ◌∷◌, map, length}
 use Rattle.std.proofs.Math.Option.{Option, none, some}
-use Rattle.model.specs.Words.{if◌then◌else◌, ◌<?◌, ◌≡?◌, sum, Checked, Checked.fine, Checked.refused, passed, ◌>>=◌, ◌>>◌}
+use Rattle.model.specs.Words.{when◌then◌else◌, ◌<?◌, ◌≡?◌, sum, Checked, Checked.fine, Checked.refused, passed, ◌>>=◌, ◌>>◌}
 use Rattle.model.specs.Bytes.{number}
 use Rattle.model.specs.Chunk.{Chunk}
 use Rattle.model.specs.Track.{has_one}
@@ -19,8 +19,8 @@ use Rattle.model.specs.declared.Counted.TheVariants as counted
 -- the frame after its list: 5 and 7
 unfoldable pub contents_hold : ℕ → List Chunk → Checked (List Chunk)
 contents_hold end chunks = do
-  if opens_with_contents chunks then passed else refused 5 8
-  if has_one wanted.Track chunks then passed else refused 7 end
+  when opens_with_contents chunks then passed else refused 5 8
+  when has_one wanted.Track chunks then passed else refused 7 end
   fine chunks
 
 -- the chunk at a place, whose body has a size
@@ -77,7 +77,7 @@ file_rows (refused number place) = []
 unfoldable pub with_room : ℕ → Checked File → Checked File
 with_room room outcome = do
   file ← outcome
-  if room / 4 <? length (rows_of file) then refused 15 0 else passed
+  when room / 4 <? length (rows_of file) then refused 15 0 else passed
   fine file
 
 -- the chunks of the top level of a file that is accepted
@@ -89,7 +89,7 @@ tops_of (refused number place) = []
 unfoldable pub top_at : ℕ → ℕ → List Top → Option Top
 top_at wanted k [] = none
 top_at wanted k (top ∷ tops) =
-    if wanted ≡? k then some top else
+    when wanted ≡? k then some top else
     top_at wanted (k + top_rows top) tops
 
 unfoldable pub found_top : Checked Top → Option Top

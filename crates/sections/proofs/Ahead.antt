@@ -8,7 +8,7 @@ use lib.ListN.{length, take}
 use native.Mathlib.Nat.{add-zero, zero-add, add_assoc}
 use native.Mathlib.Omega.{arith}
 use borrow.Author.Tests.{ltb-false}
-use Rattle.model.specs.Words.{if◌then◌else◌, ◌<?◌, sum, Step.met}
+use Rattle.model.specs.Words.{when◌then◌else◌, ◌<?◌, sum, Step.met}
 use Rattle.model.specs.Bytes.{◌!◌}
 use Rattle.model.specs.Item.{Item, Item.timed, Item.end_mark, duration_of, lasting, item_at, item_step, body_of, is_fine, items_of}
 use Rattle.model.specs.Play.{At, onsets_after, with_message, messages_of}
@@ -40,12 +40,12 @@ module _ (before start count time place : ℕ) (all items : Items) where
       → is_message event ≡ true
       → next_rows before start count time all
       ≡ record { step = before + (time + duration - start); event = event } ∷ next_rows before start fewer (time + duration) items
-  unfolding onsets_after messages_of with_message duration_of if◌then◌else◌
+  unfolding onsets_after messages_of with_message duration_of when◌then◌else◌
   message_next fewer duration event first some h = rw (first, some) (simp h)
 
   pub nop_next : (duration : ℕ) (event : Event) → all ≡ record { place = place; what = timed duration event } ∷ items → is_message event ≡ false
       → next_rows before start count time all ≡ next_rows before start count (time + duration) items
-  unfolding onsets_after messages_of with_message duration_of if◌then◌else◌
+  unfolding onsets_after messages_of with_message duration_of when◌then◌else◌
   nop_next duration event first h = rw first (simp h)
 
   pub mark_next : all ≡ record { place = place; what = end_mark } ∷ items → next_rows before start count time all ≡ next_rows before start count time items
@@ -58,7 +58,7 @@ NotBefore start time [] = Unit
 NotBefore start time (item ∷ items) = start ≤ time + duration_of item.what
 
 since_not_before : (start past : ℕ) (items : Items) → NotBefore start (since start past items).past (since start past items).items
-unfolding since if◌then◌else◌
+unfolding since when◌then◌else◌
 since_not_before start past [] = tt
 since_not_before start past (item ∷ items) =
     by_test (past + duration_of item.what <? start)
@@ -71,7 +71,7 @@ later_not_before start time (item ∷ items) h = omega arith
 
 -- what is past and what the items not before a time last make up what all last
 since_lasts : (time past : ℕ) (items : Items) → (since time past items).past + lasting (since time past items).items ≡ past + lasting items
-unfolding since lasting sum if◌then◌else◌
+unfolding since lasting sum when◌then◌else◌
 since_lasts time past [] = refl
 since_lasts time past (item ∷ items) =
     by_test (past + duration_of item.what <? time)

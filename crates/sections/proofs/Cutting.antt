@@ -7,7 +7,7 @@ use mathlib.Core.Path.{◌≡◌, refl, ap}
 use lib.ListN.{length}
 use native.Mathlib.Omega.{arith}
 use borrow.Author.Tests.{leb-false}
-use Rattle.model.specs.Words.{if◌then◌else◌, ◌or◌, ◌<?◌, ◌≤?◌, any, keep, through}
+use Rattle.model.specs.Words.{when◌then◌else◌, ◌or◌, ◌<?◌, ◌≤?◌, any, keep, through}
 use Rattle.model.specs.Item.{duration_of, body_of, is_fine, items_of}
 use Rattle.model.specs.declared.Voice.{Voice}
 use Rattle.model.specs.declared.Span.{Span}
@@ -20,7 +20,7 @@ use Rattle.sections.proofs.Places.{Standing, first_ahead}
 use Rattle.sections.proofs.Marks.{not_from}
 
 pub from_through : (first marks : ℕ) (items : Items) → first ≤ marks → items_through marks (items_from first items) ≡ items_from first (items_through marks items)
-unfolding items_from keep through if◌then◌else◌
+unfolding items_from keep through when◌then◌else◌
 from_through first marks [] h = refl
 from_through first marks (item ∷ items) h =
     by_test (first ≤? item.place)
@@ -34,7 +34,7 @@ from_through first marks (item ∷ items) h =
 module _ (voice : Voice) (s : List ℕ) where
   pub since_through : (marks time past at : ℕ) (items : Items) → Standing voice s at items → place_of (length s) (since time past items).items ≤ marks
       → since time past (items_through marks items) ≡ record { past = (since time past items).past; items = items_through marks (since time past items).items }
-  unfolding since through place_of if◌then◌else◌
+  unfolding since through place_of when◌then◌else◌
   since_through marks time past at [] st h = refl
   since_through marks time past at (item ∷ items) st h =
       by_test (past + duration_of item.what <? time)

@@ -7,7 +7,7 @@ use mathlib.Core.Option.{Option, none, some}
 use mathlib.Core.Path.{◌≡◌, refl, subst}
 use lib.ListN.{length, length-take, length-drop}
 use native.Mathlib.Omega.{arith}
-use Rattle.model.specs.Words.{if◌then◌else◌, ◌<?◌, through, sum, ◌otherwise◌, Placed}
+use Rattle.model.specs.Words.{when◌then◌else◌, ◌<?◌, through, sum, ◌otherwise◌, Placed}
 use Rattle.model.specs.Item.{lasting}
 use Rattle.model.specs.Play.{onsets_after, Section, lasts_in, stops_in, sections_played, all_played, tune_of}
 use Rattle.model.specs.Points.{time_of}
@@ -31,7 +31,7 @@ EachShort items (section ∷ sections) = (section.lasts ≤ lasting items) × Ea
 -- what sections last together, those up to where playing stops
 short_sum : (items : Items) → lasting items ≤ longest_body → (test : Section → Bool) (sections : List Section) → EachShort items sections
     → sum (map (lasts_in (onsets_after 0 items)) (through test sections)) ≤ 1082064896 * length sections
-unfolding through sum if◌then◌else◌
+unfolding through sum when◌then◌else◌
 short_sum items short test [] each = omega arith
 short_sum items short test (section ∷ sections) each =
     let rest = short_sum items short test sections each.1 in

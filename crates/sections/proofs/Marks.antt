@@ -8,7 +8,7 @@ use mathlib.Core.Path.{◌≡◌, refl, sym, ◌∙◌, ap}
 use native.Mathlib.Nat.{add_assoc, add-zero, zero-add}
 use native.Mathlib.Omega.{arith}
 use borrow.Author.Tests.{le-ltb, lt-ltb, lt-leb}
-use Rattle.model.specs.Words.{if◌then◌else◌, ◌and◌, ◌or◌, ◌≤?◌, any, first, through, sum, Placed}
+use Rattle.model.specs.Words.{when◌then◌else◌, ◌and◌, ◌or◌, ◌≤?◌, any, first, through, sum, Placed}
 use Rattle.model.specs.Item.{Item, duration_of, is_mark, lasting}
 use Rattle.model.specs.Play.{At, Onsets, onsets_after, Section, is_below, is_within, reaches, lasts_to, lasts_in}
 use Rattle.model.specs.declared.Event.{Event}
@@ -34,7 +34,7 @@ onsets_append past (item ∷ front) rest =
 
 -- what is cut off is not longer
 pub through_lasting : (place : ℕ) (items : Items) → lasting (items_through place items) ≤ lasting items
-unfolding through lasting sum if◌then◌else◌
+unfolding through lasting sum when◌then◌else◌
 through_lasting place [] = omega arith
 through_lasting place (item ∷ items) =
     let rest = through_lasting place items in
@@ -89,7 +89,7 @@ module _ (section : Section) (bound : ℕ) (stops : section.to ≡ some bound) w
   -- the first mark in front is not below the bound, or there is none and all in front lasts up to the bound
   pub unreached : (past : ℕ) (front rest : Items) → bound ≤ past + lasting (items_through section.address front)
       → any (reaches section) (onsets_after past (front ++ rest)) ≡ false
-  unfolding any onsets_after through lasting sum ◌or◌ if◌then◌else◌
+  unfolding any onsets_after through lasting sum ◌or◌ when◌then◌else◌
   unreached past [] rest h = late_unreached past rest (omega arith)
   unreached past (item ∷ front) rest h =
       let onset = past + duration_of item.what in
@@ -110,7 +110,7 @@ module _ (section : Section) (bound : ℕ) (stops : section.to ≡ some bound) w
 
   pub reached : (past : ℕ) (front rest : Items) → bound ≡ past + lasting front
       → past + lasting (items_through section.address front) < bound → Cut past front rest
-  unfolding first onsets_after through lasting sum if◌then◌else◌
+  unfolding first onsets_after through lasting sum when◌then◌else◌
   reached past [] rest e h = absurd (omega arith)
   reached past (item ∷ front) rest e h =
       let onset = past + duration_of item.what in
@@ -146,7 +146,7 @@ module _ (section : Section) (stops : section.to ≡ none) where
 
   pub open_through : (past : ℕ) (items : Items)
       → through (reaches section) (onsets_after past items) ≡ onsets_after past (items_through section.address items)
-  unfolding through onsets_after if◌then◌else◌
+  unfolding through onsets_after when◌then◌else◌
   open_through past [] = refl
   open_through past (item ∷ items) =
       let onset = past + duration_of item.what in
@@ -156,7 +156,7 @@ module _ (section : Section) (stops : section.to ≡ none) where
 
   open_lasts : (past : ℕ) (items : Items) → section.lasts ≡ past + lasting items - section.from
       → lasts_to section (first (reaches section) (onsets_after past items)) ≡ past + lasting (items_through section.address items) - section.from
-  unfolding first through onsets_after lasting sum lasts_to if◌then◌else◌
+  unfolding first through onsets_after lasting sum lasts_to when◌then◌else◌
   open_lasts past [] e = e
   open_lasts past (item ∷ items) e =
       let onset = past + duration_of item.what in
@@ -174,7 +174,7 @@ module _ (section : Section) (stops : section.to ≡ none) where
 module _ (section : Section) where
   lasts_before : (past : ℕ) (items : Items) → section.lasts ≤ past + lasting items
       → lasts_to section (first (reaches section) (onsets_after past items)) ≤ past + lasting items
-  unfolding first onsets_after lasting sum lasts_to if◌then◌else◌
+  unfolding first onsets_after lasting sum lasts_to when◌then◌else◌
   lasts_before past [] h = h
   lasts_before past (item ∷ items) h =
       let onset = past + duration_of item.what in
@@ -189,7 +189,7 @@ module _ (section : Section) where
   -- not shorter than what is past
   lasts_after : (low past : ℕ) (items : Items) → low ≤ past → low - section.from ≤ section.lasts
       → low - section.from ≤ lasts_to section (first (reaches section) (onsets_after past items))
-  unfolding first onsets_after lasts_to if◌then◌else◌
+  unfolding first onsets_after lasts_to when◌then◌else◌
   lasts_after low past [] h k = k
   lasts_after low past (item ∷ items) h k =
       let onset = past + duration_of item.what in
@@ -203,7 +203,7 @@ module _ (section : Section) where
   pub through_ended : (past : ℕ) (items : Items)
       → ((onset : ℕ) → onset ≤ past + lasting items → is_within section onset ≡ true → onset - section.from ≤ section.lasts)
       → Ended (lasts_to section (first (reaches section) (onsets_after past items))) (through (reaches section) (onsets_after past items))
-  unfolding first through onsets_after lasting sum lasts_to if◌then◌else◌
+  unfolding first through onsets_after lasting sum lasts_to when◌then◌else◌
   through_ended past [] whole = tt
   through_ended past (item ∷ items) whole =
       let onset = past + duration_of item.what in

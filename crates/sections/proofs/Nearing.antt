@@ -9,7 +9,7 @@ use native.Mathlib.Nat.{zero-add}
 use native.Mathlib.Decide.{dec_lt}
 use native.Mathlib.Omega.{arith}
 use borrow.Author.Tests.{lt-ltb, ltb-true, eq-eqb, ne_eqb, eqb-true, eqb-false}
-use Rattle.model.specs.Words.{if◌then◌else◌, ◌and◌, ◌or◌, ◌<?◌, ◌≤?◌, ◌≡?◌, any, keep, through, Placed, Step.met, Step.stuck}
+use Rattle.model.specs.Words.{when◌then◌else◌, ◌and◌, ◌or◌, ◌<?◌, ◌≤?◌, ◌≡?◌, any, keep, through, Placed, Step.met, Step.stuck}
 use Rattle.model.specs.Item.{Item, Item.timed, Item.end_mark, duration_of, is_mark, item_at, item_step, body_of, is_fine, items_of}
 use Rattle.model.specs.Play.{At, with_message}
 use Rattle.model.specs.Points.{is_address}
@@ -34,25 +34,25 @@ use Rattle.sections.proofs.Walking.{Walking, split_later, walking_starts, walkin
 
 -- how many messages an event is, and an item
 abbrev messages_in : Event → ℕ
-messages_in event = if is_message event then 1 else 0
+messages_in event = when is_message event then 1 else 0
 
 unfoldable pub heard_in : Item Event → ℕ
 heard_in (timed duration event) = messages_in event
 heard_in end_mark = 0
 
 pub heard_one : (what : Item Event) → heard_in what ≤ 1
-unfolding heard_in if◌then◌else◌
+unfolding heard_in when◌then◌else◌
 heard_one (timed duration event) = by_test (is_message event) (λ t. simp t (omega arith)) (λ t. simp t (omega arith))
 heard_one end_mark = omega arith
 
 pub says : (what : Item Event) (onset : ℕ) (l : List (At Event)) → length (with_message is_message onset what l) ≡ heard_in what + length l
-unfolding heard_in with_message if◌then◌else◌
+unfolding heard_in with_message when◌then◌else◌
 says (timed duration event) onset l = by_test (is_message event) (λ t. simp t (omega arith)) (λ t. simp t (omega arith))
 says end_mark onset l = sym (zero-add (length l))
 
 -- and as its word tells
 word_heard : (event : Event) → InWord event → heard_by (word_of event) ≡ messages_in event
-unfolding heard_by if◌then◌else◌
+unfolding heard_by when◌then◌else◌
 word_heard event fits =
     by_test (word_of event ≡? 0)
     (λ t. simp (t, word_none event fits (eqb-true (word_of event) 0 t)))
@@ -63,23 +63,23 @@ module _ (r : Reached) (duration word heard next : ℕ) (told : heard ≡ heard_
   pub passed_still : duration ≡ 0
       → record { at = next; time = r.time; messages = r.messages + heard; first = r.first; past = r.past; passed = r.passed }
       ≡ passed_by r duration (heard_by word) next
-  unfolding passed_by if◌then◌else◌
+  unfolding passed_by when◌then◌else◌
   passed_still none-taken = rw told (simp eq-eqb)
 
   pub passed_on : (duration ≡ 0 → ⊥)
       → record { at = next; time = r.time + duration; messages = r.messages + heard; first = r.at; past = r.time; passed = r.messages }
       ≡ passed_by r duration (heard_by word) next
-  unfolding passed_by if◌then◌else◌
+  unfolding passed_by when◌then◌else◌
   passed_on some-taken = rw told (simp ne_eqb)
 
 pub ruleset passing = (passed_still, passed_on)
 
 passed_at : (r : Reached) (duration heard next : ℕ) → (passed_by r duration heard next).at ≡ next
-unfolding passed_by if◌then◌else◌
+unfolding passed_by when◌then◌else◌
 passed_at r duration heard next = by_test (duration ≡? 0) (λ t. simp t) (λ t. simp t)
 
 passed_time : (r : Reached) (duration heard next : ℕ) → (passed_by r duration heard next).time ≤ r.time + duration
-unfolding passed_by if◌then◌else◌
+unfolding passed_by when◌then◌else◌
 passed_time r duration heard next = by_test (duration ≡? 0) (λ t. simp t (omega arith)) (λ t. simp t (omega arith))
 
 module _ (voice : Voice) (s : List ℕ) where
@@ -134,7 +134,7 @@ module _ (voice : Voice) (s : List ℕ) where
     pub clear : any (mark_from marks) (items_to r.at (items_of voice s)) ≡ false
 
   pub none_from : (marks at : ℕ) (items : Items) → at ≤ marks → any (mark_from marks) (items_to at items) ≡ false
-  unfolding any keep ◌or◌ if◌then◌else◌
+  unfolding any keep ◌or◌ when◌then◌else◌
   none_from marks at [] h = refl
   none_from marks at (item ∷ items) h =
       by_test (item.place <? at)
@@ -237,7 +237,7 @@ module _ (voice : Voice) (s : List ℕ) where
 
       further : (what : Item Event) (next : ℕ) (z : Reached) → item_step voice s r.at ≡ met (record { place = r.at; what = what }) next
           → duration_of what < 4294967296 → z ≡ passed_by r (duration_of what) (heard_in what) next → Further what z
-      unfolding keep if◌then◌else◌
+      unfolding keep when◌then◌else◌
       further what next z e small q =
           let item = first.0 in
           let w = first.2 in
@@ -318,7 +318,7 @@ module _ (voice : Voice) (s : List ℕ) where
       module _ (taken : Taken) (agrees : ItemAgrees taken (item_at voice s r.at)) (z : Reached)
           (q : z ≡ passed_by r taken.duration (heard_by taken.word) taken.next) where
         took : (what : Item Event) × Further what z × (is_mark what ≡ taken.mark)
-        unfolding duration_of heard_in heard_by is_mark ItemAgrees if◌then◌else◌
+        unfolding duration_of heard_in heard_by is_mark ItemAgrees when◌then◌else◌
         took = go (item_at voice s r.at) refl agrees (item_in_word s n.bytes n.body voice r.at)
           where
             go : (j : ReadItem) → item_at voice s r.at ≡ j → ItemAgrees taken j → ItemInWord j → (what : Item Event) × Further what z × (is_mark what ≡ taken.mark)

@@ -5,7 +5,7 @@ use mathlib.Core.Path.{◌≡◌, refl, sym, ap, subst}
 use lib.ListN.{length}
 use native.Mathlib.Omega.{arith}
 use borrow.Author.Tests.{le-leb, lt-leb}
-use Rattle.model.specs.Words.{if◌then◌else◌, ◌<?◌, keep, Placed, Step.met}
+use Rattle.model.specs.Words.{when◌then◌else◌, ◌<?◌, keep, Placed, Step.met}
 use Rattle.model.specs.Bytes.{◌!◌}
 use Rattle.model.specs.Item.{Item, Item.timed, Item.end_mark, duration_of, item_at, item_met, item_step}
 use Rattle.model.specs.declared.Voice.{Voice}
@@ -35,7 +35,7 @@ module _ (voice : Voice) (s : List ℕ) where
   -- the items not before a time stand further on
   since_stands : (time past at : ℕ) (items : Items) → Standing voice s at items
       → (there : ℕ) × (at ≤ there) × Standing voice s there (since time past items).items
-  unfolding since if◌then◌else◌
+  unfolding since when◌then◌else◌
   since_stands time past at [] st = (at, omega arith, st)
   since_stands time past at (item ∷ items) st =
       by_test (past + duration_of item.what <? time)
@@ -58,7 +58,7 @@ module _ (voice : Voice) (s : List ℕ) where
 
   -- all items stand from where the first does
   all_from : (place at : ℕ) (items : Items) → Standing voice s at items → place ≤ at → items_from place items ≡ items
-  unfolding items_from keep if◌then◌else◌
+  unfolding items_from keep when◌then◌else◌
   all_from place at [] st h = refl
   all_from place at (item ∷ items) st h =
       let a = stands_ahead voice s at item st.0 st.1 in
@@ -67,7 +67,7 @@ module _ (voice : Voice) (s : List ℕ) where
 
   pub from_since : (time past at : ℕ) (items : Items) → Standing voice s at items
       → items_from (place_of (length s) (since time past items).items) items ≡ (since time past items).items
-  unfolding items_from keep since if◌then◌else◌
+  unfolding items_from keep since when◌then◌else◌
   from_since time past at [] st = refl
   from_since time past at (item ∷ items) st =
       by_test (past + duration_of item.what <? time)
@@ -104,7 +104,7 @@ module _ (voice : Voice) (s : List ℕ) where
 
     pub past_small : (time past at : ℕ) (items : Items) → Standing voice s at items → past ≤ 16511 * at
         → (since time past items).past ≤ 16511 * place_of (length s) (since time past items).items
-    unfolding since if◌then◌else◌
+    unfolding since when◌then◌else◌
     past_small time past at [] st h = omega (arith, place_stands at [] st)
     past_small time past at (item ∷ items) st h =
         by_test (past + duration_of item.what <? time)

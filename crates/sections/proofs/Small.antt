@@ -6,7 +6,7 @@ use mathlib.Core.Option.{none}
 use mathlib.Core.Path.{◌≡◌, sym, subst}
 use lib.ListN.{length}
 use native.Mathlib.Omega.{arith}
-use Rattle.model.specs.Words.{if◌then◌else◌, ◌<?◌, keep, sum, Placed}
+use Rattle.model.specs.Words.{when◌then◌else◌, ◌<?◌, keep, sum, Placed}
 use Rattle.model.specs.Bytes.{◌!◌}
 use Rattle.model.specs.Item.{Item, duration_of, lasting, body_of, is_fine, items_of}
 use Rattle.model.specs.Play.{At, onsets_after, messages_of, Section, is_within, reaches, items_within}
@@ -27,7 +27,7 @@ use Rattle.sections.proofs.Stretches.{cut_few}
 use Rattle.sections.proofs.Nearing.{heard_one, says}
 
 pub kept_lasting : (test : Placed (Item Event) → Bool) (items : Items) → lasting (keep test items) ≤ lasting items
-unfolding keep lasting sum if◌then◌else◌
+unfolding keep lasting sum when◌then◌else◌
 kept_lasting test [] = omega arith
 kept_lasting test (item ∷ items) =
     let rest = kept_lasting test items in
@@ -36,7 +36,7 @@ kept_lasting test (item ∷ items) =
 module _ (voice : Voice) (s : List ℕ) where
   pub messages_few : (test : At (Placed (Item Event)) → Bool) (past at : ℕ) (items : Items) → Standing voice s at items
       → at + 3 * length (messages_of is_message (keep test (onsets_after past items))) ≤ length s
-  unfolding keep onsets_after messages_of if◌then◌else◌
+  unfolding keep onsets_after messages_of when◌then◌else◌
   messages_few test past at [] st = omega arith
   messages_few test past at (item ∷ items) st =
       let onset = past + duration_of item.what in

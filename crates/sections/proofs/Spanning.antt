@@ -8,7 +8,7 @@ use mathlib.Core.Path.{◌≡◌, refl, sym, ◌∙◌, ap, ap₂, subst}
 use lib.ListN.{length}
 use native.Mathlib.Omega.{arith}
 use borrow.Author.Tests.{eq-eqb, le-ltb, lt-ltb, le-leb, lt-leb, ltb-true, ltb-false}
-use Rattle.model.specs.Words.{if◌then◌else◌, ◌and◌, ◌or◌, ◌<?◌, ◌≡?◌, any, first, keep, through, sum, Placed}
+use Rattle.model.specs.Words.{when◌then◌else◌, ◌and◌, ◌or◌, ◌<?◌, ◌≡?◌, any, first, keep, through, sum, Placed}
 use Rattle.model.specs.Item.{Item, lasting, body_of, is_fine, items_of}
 use Rattle.model.specs.Play.{At, Onsets, onsets_after, messages_of, Section, is_below, is_within, reaches, items_within, lasts_to, lasts_in, stops_in}
 use Rattle.model.specs.Points.{is_address, time_of}
@@ -33,7 +33,7 @@ use Rattle.sections.proofs.Walking.{walking_starts, walking_is}
 
 -- of a list's messages no more are kept than there are
 kept_few : (test : At (Placed (Item Event)) → Bool) (l : Onsets Event) → length (messages_of is_message (keep test l)) ≤ length (messages_of is_message l)
-unfolding keep messages_of if◌then◌else◌
+unfolding keep messages_of when◌then◌else◌
 kept_few test [] = omega arith
 kept_few test (at ∷ l) =
     let rest = kept_few test l in
@@ -45,7 +45,7 @@ kept_few test (at ∷ l) =
 counted_apart : (section : Section) → ((onset : ℕ) → onset < section.from → is_below onset section.to ≡ true) → (l : Onsets Event)
     → length (messages_of is_message (keep (below section.to) l))
     ≡ length (messages_of is_message (keep (λ at. at.step <? section.from) l)) + length (messages_of is_message (keep (within section) l))
-unfolding keep messages_of is_within ◌and◌ if◌then◌else◌
+unfolding keep messages_of is_within ◌and◌ when◌then◌else◌
 counted_apart section under [] = refl
 counted_apart section under (at ∷ l) =
     let rest = counted_apart section under l in
@@ -63,7 +63,7 @@ counted_apart section under (at ∷ l) =
 
 -- the time of an address does not fall
 times_grow : (start stop : ℕ) (items : Items) → start ≤ stop → lasting (items_to start items) ≤ lasting (items_to stop items)
-unfolding keep lasting sum if◌then◌else◌
+unfolding keep lasting sum when◌then◌else◌
 times_grow start stop [] h = omega arith
 times_grow start stop (item ∷ items) h =
     let rest = times_grow start stop items h in
@@ -78,12 +78,12 @@ times_grow start stop (item ∷ items) h =
 module _ (from went to : Reached) (span : Span) where
   pub passage_marked : went.time < to.time → span ≡ span_to from went.messages went.time
       → record { span = span; stops = true } ≡ passage_to from went to
-  unfolding passage_to if◌then◌else◌
+  unfolding passage_to when◌then◌else◌
   passage_marked h e = ap (λ (x : Span). record { span = x; stops = true }) e ∙ simp lt-ltb
 
   pub passage_whole : to.time ≤ went.time → span ≡ span_to from to.passed to.time
       → record { span = span; stops = false } ≡ passage_to from went to
-  unfolding passage_to if◌then◌else◌
+  unfolding passage_to when◌then◌else◌
   passage_whole h e = ap (λ (x : Span). record { span = x; stops = false }) e ∙ simp le-ltb
 
 pub ruleset passages = (passage_marked, passage_whole)
@@ -101,7 +101,7 @@ module _ (voice : Voice) (s : List ℕ) where
   all = items_of voice s
 
   all_to : (at : ℕ) (items : Items) → Standing voice s at items → items_to (length s) items ≡ items
-  unfolding keep if◌then◌else◌
+  unfolding keep when◌then◌else◌
   all_to at [] st = refl
   all_to at (item ∷ items) st =
       let a = stands_ahead voice s at item st.0 st.1 in
@@ -370,7 +370,7 @@ module _ (voice : Voice) (s : List ℕ) where
             (span_like section starts (to.passed - from.passed) (to.time - from.time) many_whole lasts_whole) (sym none_reached)
 
       pub passage_is : (r : Passage) → r ≡ passage_to from went to → r ≡ passage_between (items_of voice s) (length s) from.at stop
-      unfolding passage_to if◌then◌else◌
+      unfolding passage_to when◌then◌else◌
       passage_is r e =
           e ∙ by_test (went.time <? to.time)
           (λ t. simp t (reaches_is (ltb-true went.time to.time t)))

@@ -6,7 +6,7 @@ use mathlib.Core.Option.{Option, none}
 use mathlib.Core.Path.{◌≡◌, ◌∙◌, ap}
 use native.Mathlib.Omega.{arith}
 use borrow.Author.Tests.{ltb-true}
-use Rattle.model.specs.Words.{if◌then◌else◌, ◌<?◌, ◌≤?◌, first, keep, through, Placed}
+use Rattle.model.specs.Words.{when◌then◌else◌, ◌<?◌, ◌≤?◌, first, keep, through, Placed}
 use Rattle.model.specs.Item.{Item, Item.timed, Item.end_mark, duration_of, lasting}
 use Rattle.model.specs.Play.{At, onsets_after, with_message, messages_of, Section, is_below, is_within, reaches, items_within, sounding, lasts_to, lasts_in}
 use Rattle.model.specs.Points.{time_of}
@@ -33,7 +33,7 @@ module _ (before lasts : ℕ) (section : Section) where
   with_rises : (low onset : ℕ) (what : Item Event) (l : List (At Event)) → low ≤ step_at onset
       → Rising (step_at onset) end (map (counted before section.from) l)
       → Rising low end (map (counted before section.from) (with_message is_message onset what l))
-  unfolding with_message if◌then◌else◌
+  unfolding with_message when◌then◌else◌
   with_rises low onset (timed duration event) l h rises =
       by_test (is_message event) (λ t. simp t (h, rises)) (λ t. simp t (rising_from (step_at onset) low end (map (counted before section.from) l) h rises))
   with_rises low onset end_mark l h rises = rising_from (step_at onset) low end (map (counted before section.from) l) h rises
@@ -42,7 +42,7 @@ module _ (before lasts : ℕ) (section : Section) where
   kept_rise : (cut : At (Placed (Item Event)) → Bool) (low past : ℕ) (items : Items) → low ≤ end → low ≤ step_at past
       → Ended section lasts (through cut (onsets_after past items))
       → Rising low end (map (counted before section.from) (messages_of is_message (keep (within section) (through cut (onsets_after past items)))))
-  unfolding keep through onsets_after messages_of if◌then◌else◌
+  unfolding keep through onsets_after messages_of when◌then◌else◌
   kept_rise cut low past [] h k ended = h
   kept_rise cut low past (item ∷ items) h k ended =
       let onset = past + duration_of item.what in

@@ -9,7 +9,7 @@ use lib.ListN.{length, take, length-take, length-map}
 use lib.Seq.{take-length, take-take}
 use native.Mathlib.Omega.{arith}
 use borrow.Author.Tests.{le-leb, lt-leb, le-ltb, lt-ltb, ltb-true, ltb-false}
-use Rattle.model.specs.Words.{◌and◌, if◌then◌else◌, ◌<?◌, keep, through, sum, Placed}
+use Rattle.model.specs.Words.{◌and◌, when◌then◌else◌, ◌<?◌, keep, through, sum, Placed}
 use Rattle.model.specs.Item.{Item, Item.timed, Item.end_mark, duration_of, lasting, body_of, is_fine, items_of}
 use Rattle.model.specs.Play.{At, Onsets, onsets_after, with_message, messages_of, Section, is_below, is_within, reaches, items_within, sounding}
 use Rattle.model.specs.Word.{is_message}
@@ -29,7 +29,7 @@ below to at = is_below at.step to
 
 -- an item in front of what is kept of those after it
 abbrev kept_first : Option ℕ → ℕ → Placed (Item Event) → Onsets Event → Onsets Event
-kept_first to onset item rest = if is_below onset to then record { step = onset; event = item } ∷ rest else rest
+kept_first to onset item rest = when is_below onset to then record { step = onset; event = item } ∷ rest else rest
 
 -- past a section's start only the bound counts
 pub kept_after : (section : Section) (past : ℕ) (items : Items) → section.from ≤ past
@@ -46,7 +46,7 @@ kept_after section past (item ∷ items) h =
 pub kept_since : (section : Section) (past : ℕ) (items : Items)
     → keep (within section) (onsets_after past items)
     ≡ keep (below section.to) (onsets_after (since section.from past items).past (since section.from past items).items)
-unfolding keep onsets_after is_within since ◌and◌ if◌then◌else◌
+unfolding keep onsets_after is_within since ◌and◌ when◌then◌else◌
 kept_since section past [] = refl
 kept_since section past (item ∷ items) =
     by_test (past + duration_of item.what <? section.from)
@@ -61,7 +61,7 @@ kept_since section past (item ∷ items) =
 
 -- past a bound nothing is kept
 pub none_kept : (bound past : ℕ) (items : Items) → bound ≤ past → keep (below (some bound)) (onsets_after past items) ≡ []
-unfolding keep onsets_after is_below if◌then◌else◌
+unfolding keep onsets_after is_below when◌then◌else◌
 none_kept bound past [] h = refl
 none_kept bound past (item ∷ items) h =
     let over : bound ≤ past + duration_of item.what = omega arith in
@@ -69,7 +69,7 @@ none_kept bound past (item ∷ items) h =
 
 -- before a bound all is
 pub below_kept : (bound past : ℕ) (items : Items) → past + lasting items < bound → keep (below (some bound)) (onsets_after past items) ≡ onsets_after past items
-unfolding keep onsets_after is_below lasting sum if◌then◌else◌
+unfolding keep onsets_after is_below lasting sum when◌then◌else◌
 below_kept bound past [] h = refl
 below_kept bound past (item ∷ items) h =
     let under : past + duration_of item.what < bound = omega arith in
@@ -79,14 +79,14 @@ below_kept bound past (item ∷ items) h =
     (below_kept bound (past + duration_of item.what) items later))
 
 pub all_kept : (l : Onsets Event) → keep (below none) l ≡ l
-unfolding keep is_below if◌then◌else◌
+unfolding keep is_below when◌then◌else◌
 all_kept [] = refl
 all_kept (at ∷ l) = ap (λ (rest : Onsets Event). at ∷ rest) (all_kept l)
 
 -- an item's message in front of a first piece and of the whole
 first_with : (onset : ℕ) (item : Item Event) (piece whole : List (At Event)) → take (length piece) whole ≡ piece
     → take (length (with_message is_message onset item piece)) (with_message is_message onset item whole) ≡ with_message is_message onset item piece
-unfolding with_message if◌then◌else◌
+unfolding with_message when◌then◌else◌
 first_with onset (timed duration event) piece whole e =
     by_test (is_message event)
     (λ t. simp t (ap (λ (rest : List (At Event)). record { step = onset; event = event } ∷ rest) e))
@@ -97,7 +97,7 @@ first_with onset end_mark piece whole e = e
 first_kept : (to : Option ℕ) (past : ℕ) (items : Items)
     → take (length (messages_of is_message (keep (below to) (onsets_after past items)))) (messages_after past items)
     ≡ messages_of is_message (keep (below to) (onsets_after past items))
-unfolding keep onsets_after messages_of is_below if◌then◌else◌
+unfolding keep onsets_after messages_of is_below when◌then◌else◌
 first_kept none past items = rw (all_kept (onsets_after past items)) (take-length (messages_after past items))
 first_kept (some bound) past [] = refl
 first_kept (some bound) past (item ∷ items) =
@@ -110,7 +110,7 @@ first_kept (some bound) past (item ∷ items) =
 -- what is cut off the end of a list takes messages off the end alone
 first_cut : (test cut : At (Placed (Item Event)) → Bool) (l : Onsets Event)
     → take (length (messages_of is_message (keep test (through cut l)))) (messages_of is_message (keep test l)) ≡ messages_of is_message (keep test (through cut l))
-unfolding keep through messages_of if◌then◌else◌
+unfolding keep through messages_of when◌then◌else◌
 first_cut test cut [] = refl
 first_cut test cut (at ∷ l) =
     by_test (cut at)

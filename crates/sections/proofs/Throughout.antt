@@ -6,7 +6,7 @@ use mathlib.Core.List.{List, [], ◌∷◌, ◌++◌, map}
 use mathlib.Core.Path.{◌≡◌, subst}
 use lib.ListN.{length}
 use native.Mathlib.Omega.{arith}
-use Rattle.model.specs.Words.{if◌then◌else◌, keep, through, Checked.fine, Placed, Step.met}
+use Rattle.model.specs.Words.{when◌then◌else◌, keep, through, Checked.fine, Placed, Step.met}
 use Rattle.model.specs.Bytes.{◌!◌}
 use Rattle.model.specs.Item.{Item, Item.timed, Item.end_mark, item_met, item_step, item_at, duration_of, body_of}
 use Rattle.model.specs.Play.{At, onsets_after, with_message, messages_of, Section, is_within, reaches, items_within, sounding, lasts_in, sections_played, played_from, all_played, tune_of}
@@ -44,13 +44,13 @@ module _ (P : Event → Type 0) where
 
   of_with : (onset : ℕ) (item : Item Event) (messages : List (At Event)) → OfItem item → OfMessages messages
       → OfMessages (with_message is_message onset item messages)
-  unfolding with_message if◌then◌else◌
+  unfolding with_message when◌then◌else◌
   of_with onset (timed duration event) messages p s = if_all OfMessages (is_message event) _ _ (λ t. (t, p, s)) (λ t. s)
   of_with onset end_mark messages p s = s
 
   of_kept : (test cut : At (Placed (Item Event)) → Bool) (past : ℕ) (items : Items) → OfItems items
       → OfMessages (messages_of is_message (keep test (through cut (onsets_after past items))))
-  unfolding keep through onsets_after messages_of if◌then◌else◌
+  unfolding keep through onsets_after messages_of when◌then◌else◌
   of_kept test cut past [] all = tt
   of_kept test cut past (item ∷ items) all =
       let onset = past + duration_of item.what in

@@ -6,7 +6,7 @@ use mathlib.Core.Option.{Option, none, some}
 use mathlib.Core.Path.{◌≡◌, subst}
 use native.Mathlib.Nat.{zero-add}
 use native.Mathlib.Omega.{arith}
-use Rattle.model.specs.Words.{if◌then◌else◌, ◌otherwise◌, through, sum, Placed}
+use Rattle.model.specs.Words.{when◌then◌else◌, ◌otherwise◌, through, sum, Placed}
 use Rattle.model.specs.Play.{At, onsets_after, Section, sounding, lasts_in, stops_in, sections_played, played_from, all_played, tune_of}
 use Rattle.model.specs.Word.{is_message}
 use Rattle.model.specs.Seek.{Entry, Addresses, start_point, stop_point, phrase_of, order_list}
@@ -33,7 +33,7 @@ module _ (items : Items) where
 
   -- also of those up to where playing stops
   through_each : (test : Section → Bool) (sections : List Section) → EachRises sections → EachRises (through test sections)
-  unfolding through if◌then◌else◌
+  unfolding through when◌then◌else◌
   through_each test [] each = tt
   through_each test (section ∷ sections) each =
       by_test (test section) (λ t. simp t (each.0, tt)) (λ t. simp t (each.0, through_each test sections each.1))

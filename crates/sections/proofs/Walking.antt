@@ -8,7 +8,7 @@ use lib.ListN.{length}
 use native.Mathlib.Nat.{add-zero, zero-add, add_assoc}
 use native.Mathlib.Omega.{arith}
 use borrow.Author.Tests.{lt-ltb, le-ltb, ltb-true, eqb-true, eqb-false}
-use Rattle.model.specs.Words.{if◌then◌else◌, ◌<?◌, ◌≡?◌, keep, sum, Placed}
+use Rattle.model.specs.Words.{when◌then◌else◌, ◌<?◌, ◌≡?◌, keep, sum, Placed}
 use Rattle.model.specs.Item.{Item, duration_of, lasting, body_of, is_fine, items_of}
 use Rattle.model.specs.Play.{At, Onsets, onsets_after, with_message, messages_of, is_below}
 use Rattle.model.specs.Points.{is_address, time_of}
@@ -42,7 +42,7 @@ pub record Walking (voice : Voice) (s : List ℕ) (r : Reached) (rest : Items) :
 
 -- at time 0 all is still to come
 since_all : (past : ℕ) (items : Items) → since 0 past items ≡ record { past = past; items = items }
-unfolding since if◌then◌else◌
+unfolding since when◌then◌else◌
 since_all past [] = refl
 since_all past (item ∷ items) = let late : 0 ≤ past + duration_of item.what = omega arith in simp le-ltb
 
@@ -52,7 +52,7 @@ none_early past items = ap (λ (l : Onsets Event). length (messages_of is_messag
 
 -- items from a place on have places from there on
 none_to : (voice : Voice) (s : List ℕ) (address at : ℕ) (items : Items) → Standing voice s at items → address ≤ at → items_to address items ≡ []
-unfolding keep if◌then◌else◌
+unfolding keep when◌then◌else◌
 none_to voice s address at [] st h = refl
 none_to voice s address at (item ∷ items) st h =
     let a = stands_ahead voice s at item st.0 st.1 in
@@ -61,7 +61,7 @@ none_to voice s address at (item ∷ items) st h =
 
 -- items before an address are before a later one
 to_later : (address later : ℕ) (items : Items) → address ≤ later → items_to later (items_to address items) ≡ items_to address items
-unfolding keep if◌then◌else◌
+unfolding keep when◌then◌else◌
 to_later address later [] h = refl
 to_later address later (item ∷ items) h =
     by_test (item.place <? address)
@@ -136,7 +136,7 @@ module _ (voice : Voice) (s : List ℕ) where
 
     heards_next : (address : ℕ) → next ≤ address
         → r.messages + heard + length (messages_after (r.time + duration) (items_to address rest)) ≡ length (messages_after 0 (items_to address all))
-    unfolding keep onsets_after messages_of if◌then◌else◌
+    unfolding keep onsets_after messages_of when◌then◌else◌
     heards_next address h =
         let before : item.place < address = omega (arith, here, ahead) in
         let first : items_to address (item ∷ rest) ≡ item ∷ items_to address rest = simp lt-ltb in
@@ -150,14 +150,14 @@ module _ (voice : Voice) (s : List ℕ) where
         ∙ u
 
     sinces_next : (time : ℕ) → r.time + duration < time → since time 0 all ≡ since time (r.time + duration) rest
-    unfolding since if◌then◌else◌
+    unfolding since when◌then◌else◌
     sinces_next time h =
         let early : r.time + duration_of item.what < time = omega (arith, takes) in
         let step : since time r.time (item ∷ rest) ≡ since time (r.time + duration_of item.what) rest = simp lt-ltb in
         w.sinces time (omega arith) ∙ step ∙ ap (λ (d : ℕ). since time (r.time + d) rest) takes
 
     earlies_next : (time : ℕ) → r.time + duration < time → messages_to time 0 all ≡ r.messages + heard + messages_to time (r.time + duration) rest
-    unfolding keep onsets_after messages_of if◌then◌else◌
+    unfolding keep onsets_after messages_of when◌then◌else◌
     earlies_next time h =
         let early : r.time + duration_of item.what < time = omega (arith, takes) in
         let l = messages_of is_message (keep (λ at. at.step <? time) (onsets_after (r.time + duration_of item.what) rest)) in
@@ -168,7 +168,7 @@ module _ (voice : Voice) (s : List ℕ) where
 
     -- the items before the next place are those before this one, and this
     pub behind_next : items_to next all ≡ items_to r.at all ++ (item ∷ [])
-    unfolding keep if◌then◌else◌
+    unfolding keep when◌then◌else◌
     behind_next =
         let before : item.place < next = omega (arith, here, ahead) in
         let one : items_to next (item ∷ rest) ≡ item ∷ [] =
@@ -200,13 +200,13 @@ module _ (voice : Voice) (s : List ℕ) where
 
     -- an item that takes time begins what is not before its onset
     since_here : (duration ≡ 0 → ⊥) → since (r.time + duration) 0 all ≡ record { past = r.time; items = item ∷ rest }
-    unfolding since if◌then◌else◌
+    unfolding since when◌then◌else◌
     since_here long =
         let late : r.time + duration ≤ r.time + duration_of item.what = omega (arith, takes) in
         w.sinces (r.time + duration) (omega arith) ∙ simp le-ltb
 
     early_here : (duration ≡ 0 → ⊥) → messages_to (r.time + duration) 0 all ≡ r.messages
-    unfolding keep onsets_after messages_of is_below if◌then◌else◌
+    unfolding keep onsets_after messages_of is_below when◌then◌else◌
     early_here long =
         let late : r.time + duration ≤ r.time + duration_of item.what = omega (arith, takes) in
         let none = none_kept (r.time + duration) (r.time + duration_of item.what) rest late in
@@ -214,7 +214,7 @@ module _ (voice : Voice) (s : List ℕ) where
         w.earlies (r.time + duration) (omega arith) ∙ ap (λ (n : ℕ). r.messages + n) step ∙ add-zero r.messages
 
     pub walking_on : Walking voice s (passed_by r duration heard next) rest
-    unfolding passed_by place_of if◌then◌else◌
+    unfolding passed_by place_of when◌then◌else◌
     walking_on =
         by_test (duration ≡? 0)
         (λ t. let z = eqb-true duration 0 t in simp t (moved r.time r.first r.past r.passed (omega arith) w.begun w.first w.past w.passed))

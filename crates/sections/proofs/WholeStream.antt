@@ -6,7 +6,7 @@ use mathlib.Core.Option.{none}
 use mathlib.Core.Path.{◌≡◌, refl, ◌∙◌, ap, ap₂}
 use native.Mathlib.Omega.{arith}
 use borrow.Author.Tests.{le-ltb, le-leb}
-use Rattle.model.specs.Words.{if◌then◌else◌, ◌and◌, ◌<?◌, keep, through, sum, Placed}
+use Rattle.model.specs.Words.{when◌then◌else◌, ◌and◌, ◌<?◌, keep, through, sum, Placed}
 use Rattle.model.specs.Item.{Item, is_mark, lasting}
 use Rattle.model.specs.Play.{At, Tune, onsets_after, Section, sounding, stops_in, sections_played, played_from, all_played, tune_of}
 use Rattle.model.specs.Points.{time_of}
@@ -28,7 +28,7 @@ to_mark items = through (λ item. is_mark item.what) items
 
 -- every place is from the head on
 to_mark_lem : (items : Items) → items_through 0 items ≡ to_mark items
-unfolding through mark_from ◌and◌ if◌then◌else◌
+unfolding through mark_from ◌and◌ when◌then◌else◌
 to_mark_lem [] = refl
 to_mark_lem (item ∷ items) =
     by_test (is_mark item.what)
@@ -36,7 +36,7 @@ to_mark_lem (item ∷ items) =
     (λ t. simp t (ap (λ (rest : Items). item ∷ rest) (to_mark_lem items)))
 
 none_before : (items : Items) → keep (λ item. item.place <? 0) items ≡ []
-unfolding keep if◌then◌else◌
+unfolding keep when◌then◌else◌
 none_before [] = refl
 none_before (item ∷ items) = rw (le-ltb item.place 0 (omega arith)) (none_before items)
 
@@ -52,7 +52,7 @@ as_they_are start (at ∷ messages) h =
 
 -- an order of one section plays that section, whatever it reaches
 pub played_alone : (items : Items) (section : Section) → tune_of is_message items (section ∷ []) ≡ all_played is_message (onsets_after 0 items) (section ∷ [])
-unfolding tune_of sections_played through if◌then◌else◌
+unfolding tune_of sections_played through when◌then◌else◌
 played_alone items section =
     ap (all_played is_message (onsets_after 0 items)) (by_test (stops_in (onsets_after 0 items) section) (λ t. simp t) (λ t. simp t))
 

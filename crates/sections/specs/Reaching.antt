@@ -1,6 +1,6 @@
 -- A body walked up to an address, or through the first end mark from a place on.
 use Rattle.std.specs.Prelude.{ℕ, ◌+◌, ◌-◌, ◌*◌, ◌≤◌, true, false, ◌≡◌, length}
-use Rattle.model.specs.Words.{if◌then◌else◌, ◌<?◌, ◌≡?◌, any, keep}
+use Rattle.model.specs.Words.{when◌then◌else◌, ◌<?◌, ◌≡?◌, any, keep}
 use Rattle.model.specs.Play.{onsets_after, messages_of}
 use Rattle.model.specs.Points.{is_address, time_of}
 use Rattle.model.specs.Word.{is_message}
@@ -45,18 +45,18 @@ span_to reached messages time = span_on reached (messages - reached.passed) (tim
 -- the passage from what is reached on: up to where a walk went, if that is before the time of the stop, and else up to the stop
 unfoldable pub passage_to : Reached → Reached → Reached → Passage
 passage_to from went to =
-    if went.time <? to.time then record { span = span_to from went.messages went.time; stops = true } else
+    when went.time <? to.time then record { span = span_to from went.messages went.time; stops = true } else
     record { span = span_to from to.passed to.time; stops = false }
 
 -- how many messages an item is, by its word
 unfoldable pub heard_by : ℕ → ℕ
-heard_by word = if word ≡? 0 then 0 else 1
+heard_by word = when word ≡? 0 then 0 else 1
 
 -- One item further: a duration, so many messages, and the place after it. An item that takes time is the first that is not before its
 -- own onset.
 unfoldable pub passed_by : Reached → ℕ → ℕ → ℕ → Reached
 passed_by reached duration heard next =
-    if duration ≡? 0 then record {
+    when duration ≡? 0 then record {
       at = next;
       time = reached.time;
       messages = reached.messages + heard;

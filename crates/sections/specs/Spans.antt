@@ -2,7 +2,7 @@
 -- plays is the first so many messages of that.
 use Rattle.std.specs.Prelude.{ℕ, ◌+◌, ◌-◌, ◌*◌, ◌<◌, ◌≤◌, Bool, List, [], ◌∷◌, map, ◌≡◌, length, take}
 use Rattle.std.proofs.Math.Option.{none}
-use Rattle.model.specs.Words.{if◌then◌else◌, ◌and◌, ◌<?◌, ◌≤?◌, keep, through, Placed}
+use Rattle.model.specs.Words.{when◌then◌else◌, ◌and◌, ◌<?◌, ◌≤?◌, keep, through, Placed}
 use Rattle.model.specs.Duration.{longest_duration}
 use Rattle.model.specs.Item.{Item, duration_of, is_mark, lasting}
 use Rattle.model.specs.Play.{At, onsets_after, messages_of, Section, items_within, lasts_in, stops_in}
@@ -33,7 +33,7 @@ pub record Rest : Type 0 where
 unfoldable pub since : ℕ → ℕ → Items → Rest
 since time past [] = record { past = past; items = [] }
 since time past (item ∷ items) =
-    if past + duration_of item.what <? time then since time (past + duration_of item.what) items else
+    when past + duration_of item.what <? time then since time (past + duration_of item.what) items else
     record { past = past; items = item ∷ items }
 
 -- the place of the first item, or the body's size where there is none

@@ -6,7 +6,7 @@ use mathlib.Core.Path.{◌≡◌, refl, ◌∙◌, subst}
 use lib.ListN.{length}
 use native.Mathlib.Omega.{arith}
 use borrow.Author.Tests.{ltb-false, leb-false}
-use Rattle.model.specs.Words.{if◌then◌else◌, ◌≤?◌, ◌≡?◌, Placed, Step, Step.met, Step.stuck}
+use Rattle.model.specs.Words.{when◌then◌else◌, ◌≤?◌, ◌≡?◌, Placed, Step, Step.met, Step.stuck}
 use Rattle.model.specs.Bytes.{◌!◌, part}
 use Rattle.model.specs.Seek.{Entry, Entry.start, Entry.stop, Entry.phrase, Entry.order, is_letter, data_at, phrase_at, entry_at, followed, entry_met, entry_step}
 use Rattle.model.specs.declared.ReadEntry.{ReadEntry}
@@ -73,29 +73,29 @@ placed s at entry = record { place = at; what = entry_of s at entry }
 
 -- the step that it stands for
 unfoldable pub step_of : List ℕ → ℕ → ReadEntry → Step (Placed Entry)
-step_of s at entry = if is_refused entry then stuck 12 at else met (placed s at entry) (end_of entry)
+step_of s at entry = when is_refused entry then stuck 12 at else met (placed s at entry) (end_of entry)
 
-through : {A B : Type 0} (f : A → B) (b c : Bool) (x y z : A) → f (if b then x else if c then y else z) ≡ (if b then f x else if c then f y else f z)
-unfolding if◌then◌else◌
+through : {A B : Type 0} (f : A → B) (b c : Bool) (x y z : A) → f (when b then x else when c then y else z) ≡ (when b then f x else when c then f y else f z)
+unfolding when◌then◌else◌
 through f true c x y z = refl
 through f false true x y z = refl
 through f false false x y z = refl
 
 past_comma_if : (s : List ℕ) (at : ℕ) (entry : ReadEntry) → step_of s at (past_comma s entry)
-    ≡ (if length s ≤? end_of entry then step_of s at entry else
-    if s ! end_of entry ≡? 0x2C then step_of s at (moved_to (end_of entry + 1) entry) else
+    ≡ (when length s ≤? end_of entry then step_of s at entry else
+    when s ! end_of entry ≡? 0x2C then step_of s at (moved_to (end_of entry + 1) entry) else
     step_of s at Refused)
 unfolding past_comma
 past_comma_if s at entry = through (step_of s at) _ _ _ _ _
 
-refused_through : (s : List ℕ) (at : ℕ) (b c : Bool) → (if b then step_of s at Refused else if c then step_of s at Refused else step_of s at Refused) ≡ stuck 12 at
-unfolding step_of is_refused if◌then◌else◌
+refused_through : (s : List ℕ) (at : ℕ) (b c : Bool) → (when b then step_of s at Refused else when c then step_of s at Refused else step_of s at Refused) ≡ stuck 12 at
+unfolding step_of is_refused when◌then◌else◌
 refused_through s at true c = refl
 refused_through s at false true = refl
 refused_through s at false false = refl
 
 past_comma_steps : (s : List ℕ) (at : ℕ) (entry : ReadEntry) → step_of s at (past_comma s entry) ≡ entry_met s at entry
-unfolding followed step_of entry_met entry_of is_refused end_of moved_to if◌then◌else◌
+unfolding followed step_of entry_met entry_of is_refused end_of moved_to when◌then◌else◌
 past_comma_steps s at (Start value next) = past_comma_if s at (Start value next)
 past_comma_steps s at (Stop value next) = past_comma_if s at (Stop value next)
 past_comma_steps s at (Phrase letter from to next) = past_comma_if s at (Phrase letter from to next)
@@ -107,7 +107,7 @@ unfolding next_at entry_step
 next_steps width s at = past_comma_steps s at (entry_at width s at)
 
 step_goes : (s : List ℕ) (at : ℕ) (entry : ReadEntry) → EntryAhead at (length s) entry → GoesOn (length s) at (step_of s at entry)
-unfolding step_of is_refused end_of if◌then◌else◌
+unfolding step_of is_refused end_of when◌then◌else◌
 step_goes s at (Start value next) a = a
 step_goes s at (Stop value next) a = a
 step_goes s at (Phrase letter from to next) a = (a.0, a.1)

@@ -7,7 +7,7 @@ use mathlib.Core.Path.{◌≡◌, refl, sym, ◌∙◌, ap, ap₂}
 use lib.ListN.{length}
 use native.Mathlib.Omega.{arith}
 use borrow.Author.Tests.{le-leb, lt-leb, le-ltb, lt-ltb, ltb-true, ltb-false}
-use Rattle.model.specs.Words.{if◌then◌else◌, ◌and◌, ◌<?◌, ◌≤?◌, ◌otherwise◌, ◌>>◌, Placed, Checked, Checked.fine, Checked.refused, passed, all_pass}
+use Rattle.model.specs.Words.{when◌then◌else◌, ◌and◌, ◌<?◌, ◌≤?◌, ◌otherwise◌, ◌>>◌, Placed, Checked, Checked.fine, Checked.refused, passed, all_pass}
 use Rattle.model.specs.Item.{Item, is_fine, check_answer}
 use Rattle.model.specs.Seek.{Entry, seek_of, start_point, order_list, points_said}
 use Rattle.model.specs.Points.{is_address, is_span, point_holds, points_hold, is_position, order_holds}
@@ -104,7 +104,7 @@ abbrev pub tested : Bool → List (Placed (Item Event)) → ℕ → Points → R
 tested phrases items size points entry = entry_holds (is_address items size) (is_point phrases items size points.letters) points.start entry
 
 abbrev rule : Bool → Items → ℕ → Entries → Placed Entry → Checked (Unit {0})
-rule phrases items size all entry = if kept phrases items size all entry.what then passed else refused 13 entry.place
+rule phrases items size all entry = when kept phrases items size all entry.what then passed else refused 13 entry.place
 
 abbrev pub Holding : Bool → List (Placed (Item Event)) → ℕ → List ℕ → ℕ → Type 0
 Holding phrases items size s at =

@@ -8,7 +8,7 @@ use native.Mathlib.Nat.{add-zero}
 use native.Mathlib.Omega.{arith}
 use lib.ListN.{length, drop}
 use borrow.Author.Tests.{le-ltb, leb-true, ltb-false, eq-eqb, ne_eqb, eqb-true}
-use Rattle.model.specs.Words.{if◌then◌else◌, ◌and◌, ◌<?◌, ◌≤?◌, ◌≡?◌}
+use Rattle.model.specs.Words.{when◌then◌else◌, ◌and◌, ◌<?◌, ◌≤?◌, ◌≡?◌}
 use Rattle.model.specs.Bytes.{◌!◌, number}
 use Rattle.model.specs.Seek.{is_letter, letters_in_front, data_at, entry_at}
 use Rattle.model.specs.declared.ReadEntry.{ReadEntry}
@@ -20,10 +20,10 @@ use Rattle.seek.proofs.Letters.{letter_least, letter_most, letter_among, letters
 -- a refused entry is none
 
 refused_unknown : (s : List ℕ) → is_known (length s) (past_comma s Refused) ≡ false
-unfolding past_comma end_of moved_to is_known if◌then◌else◌
+unfolding past_comma end_of moved_to is_known when◌then◌else◌
 refused_unknown s = go (length s ≤? 0) (s ! 0 ≡? 0x2C)
   where
-    go : (a b : Bool) → is_known (length s) (if a then Refused else if b then Refused else Refused) ≡ false
+    go : (a b : Bool) → is_known (length s) (when a then Refused else when b then Refused else Refused) ≡ false
     go true b = refl
     go false true = refl
     go false false = refl

@@ -11,7 +11,7 @@ use lib.ListN.{length, drop, get_or, length-drop}
 use native.Mathlib.Decide.{dec_lt}
 use lib.Seq.{drop-cons, drop-length, get_or-drop}
 use borrow.Author.Tests.{le-leb, lt-leb, ne_eqb}
-use Rattle.model.specs.Words.{if◌then◌else◌, ◌and◌, ◌or◌, ◌≡?◌, any}
+use Rattle.model.specs.Words.{when◌then◌else◌, ◌and◌, ◌or◌, ◌≡?◌, any}
 use Rattle.model.specs.Seek.{is_letter, letters_in_front}
 use Rattle.model.proofs.Tests.{by_test, if_all, if_true, if_false, flag_on, flag_off}
 
@@ -97,7 +97,7 @@ module _ (s : List ℕ) (at count : ℕ) (r : Counting s at count) where
       sym (add-zero count) ∙ ap (λ (n : ℕ). count + n) (sym none) ∙ r.same
 
   module _ (here : count < length s - at) where
-    in_front : letters_in_front (drop (at + count) s) ≡ (if is_letter (get_or s (at + count) 0) then suc (letters_in_front (drop (suc (at + count)) s)) else 0)
+    in_front : letters_in_front (drop (at + count) s) ≡ (when is_letter (get_or s (at + count) 0) then suc (letters_in_front (drop (suc (at + count)) s)) else 0)
     unfolding letters_in_front
     in_front = let there : at + count < length s = omega arith in rw (drop-cons s (at + count) 0)
 

@@ -12,7 +12,7 @@ use mir.Val.{Fits}
 use lib.ListN.{length, get_or, set, length-set, replicate, length-replicate}
 use lib.Seq.{drop-cons, get_or-set_same, get_or-set_other}
 use borrow.Author.Tests.{eqb-true, eqb-false}
-use Rattle.model.specs.Words.{if◌then◌else◌, ◌or◌, ◌≡?◌, is_some, ◌otherwise◌, ◌or_else◌, first_said, ◌>>◌, Placed, Checked, Checked.fine, Checked.refused, passed, all_pass}
+use Rattle.model.specs.Words.{when◌then◌else◌, ◌or◌, ◌≡?◌, is_some, ◌otherwise◌, ◌or_else◌, first_said, ◌>>◌, Placed, Checked, Checked.fine, Checked.refused, passed, all_pass}
 use Rattle.model.specs.Bytes.{◌!◌, part}
 use Rattle.model.specs.Item.{is_fine, check_answer}
 use Rattle.model.specs.Seek.{Entry, Entry.start, Entry.stop, Entry.phrase, Entry.order, tag, seek_of, Addresses, phrase_in, order_in, letters_from, phrase_of, order_list, order_place, points_said}
@@ -42,9 +42,9 @@ abbrev pub named : List Bool → ℕ → List (Placed Entry) → Bool
 named flags letter entries = get_or flags letter false or is_some (phrase_of letter entries)
 
 named_more : (flags : List Bool) (letter name : ℕ) (addresses : Addresses) (others : Option Addresses) → letter < length flags
-    → (get_or flags letter false or is_some ((if name ≡? letter then some addresses else none) or_else others))
+    → (get_or flags letter false or is_some ((when name ≡? letter then some addresses else none) or_else others))
     ≡ (get_or (set flags name true) letter false or is_some others)
-unfolding if◌then◌else◌ ◌or_else◌ is_some ◌or◌
+unfolding when◌then◌else◌ ◌or_else◌ is_some ◌or◌
 named_more flags letter name addresses others long =
     by_test (name ≡? letter)
     (λ h.
@@ -204,7 +204,7 @@ module _ (phrases : Bool) (s : List ℕ) (end at : ℕ) (r : Lettering phrases s
         let more : end - at ≡ suc (end - (at + 1)) = omega arith in
         rw (more, drop-cons s at 0, ← add-one at)
 
-    splits : check_answer (if is_some (phrase_of (s ! at) (all_entries phrases s)) then letters_named (all_entries phrases s) (at + 1) (part s (at + 1) (end - (at + 1))) else refused 14 at)
+    splits : check_answer (when is_some (phrase_of (s ! at) (all_entries phrases s)) then letters_named (all_entries phrases s) (at + 1) (part s (at + 1) (end - (at + 1))) else refused 14 at)
         ≡ check_answer (order_holds (all_entries phrases s))
     unfolding letters_named
     splits = ap (λ (l : List ℕ). check_answer (letters_named (all_entries phrases s) at l)) (sym first) ∙ r.same

@@ -8,7 +8,7 @@ use lib.ListN.{length, get_or, set, length-set, replicate, length-replicate}
 use lib.Seq.{get_or-set_same, get_or-set_other}
 use native.Mathlib.Omega.{arith}
 use borrow.Author.Tests.{eq-eqb, ne_eqb, eqb-true, eqb-false, lt-ltb, le-ltb, ltb-false}
-use Rattle.model.specs.Words.{if◌then◌else◌, ◌or◌, ◌<?◌, ◌≡?◌, any, Placed, Checked, Checked.refused, passed, Step.met, walk_to, in_turn}
+use Rattle.model.specs.Words.{when◌then◌else◌, ◌or◌, ◌<?◌, ◌≡?◌, any, Placed, Checked, Checked.refused, passed, Step.met, walk_to, in_turn}
 use Rattle.model.specs.Item.{check_answer}
 use Rattle.model.specs.Seek.{Entry, Entry.start, Entry.stop, Entry.phrase, Entry.order, is_letter, tag, rank, in_order, entry_step, seek_of}
 use Rattle.model.specs.Track.{point_width}
@@ -39,13 +39,13 @@ Known (phrase letter from to) = is_letter letter ≡ true
 Known (order letters) = Unit
 
 tag_at : ℕ → ℕ
-tag_at n = if n ≡? 0 then 0x7374 else if n ≡? 1 then 0x7370 else if n ≡? 2 then 0x534C else 0x5000 + n
+tag_at n = when n ≡? 0 then 0x7374 else when n ≡? 1 then 0x7370 else when n ≡? 2 then 0x534C else 0x5000 + n
 
 slot_at : ℕ → ℕ
-slot_at n = if n ≡? 0x7374 then 0 else if n ≡? 0x7370 then 1 else if n ≡? 0x534C then 2 else n - 0x5000
+slot_at n = when n ≡? 0x7374 then 0 else when n ≡? 0x7370 then 1 else when n ≡? 0x534C then 2 else n - 0x5000
 
 tag_is : (entry : Entry) → Known entry → tag entry ≡ tag_at (slot entry)
-unfolding tag slot tag_at if◌then◌else◌
+unfolding tag slot tag_at when◌then◌else◌
 tag_is (start value) k = refl
 tag_is (stop value) k = refl
 tag_is (phrase letter from to) k =
@@ -57,7 +57,7 @@ tag_is (phrase letter from to) k =
 tag_is (order letters) k = refl
 
 slot_is : (entry : Entry) → Known entry → slot entry ≡ slot_at (tag entry)
-unfolding tag slot slot_at if◌then◌else◌
+unfolding tag slot slot_at when◌then◌else◌
 slot_is (start value) k = refl
 slot_is (stop value) k = refl
 slot_is (phrase letter from to) k =
@@ -111,15 +111,15 @@ ranked before n = any (λ earlier. n <? rank earlier.what) before
 
 module _ (before : List (Placed Entry)) (entry : Placed Entry) where
   pub in_order_passes : tagged before entry.what ≡ false → ranked before (rank entry.what) ≡ false → in_order before entry ≡ passed
-  unfolding in_order if◌then◌else◌
+  unfolding in_order when◌then◌else◌
   in_order_passes h g = simp (h, g)
 
   pub in_order_twice : tagged before entry.what ≡ true → in_order before entry ≡ refused 12 entry.place
-  unfolding in_order if◌then◌else◌
+  unfolding in_order when◌then◌else◌
   in_order_twice h = simp h
 
   pub in_order_late : ranked before (rank entry.what) ≡ true → in_order before entry ≡ refused 12 entry.place
-  unfolding in_order if◌then◌else◌
+  unfolding in_order when◌then◌else◌
   in_order_late g = by_test (tagged before entry.what) (λ h. simp h) (λ h. simp (h, g))
 
 -- what the code remembers of the entries met
@@ -164,11 +164,11 @@ pub record Forming (phrases : Bool) (s : List ℕ) (seen : List Bool) (highest a
   pub same : check_answer left ≡ check_answer (seek_of (point_width phrases) s)
 
 pub form_empty : (phrases : Bool) (s : List ℕ) (z : Check) → length s ≡ 0 → z ≡ check.Refused 12 0 → z ≡ check_answer (seek_of (point_width phrases) s)
-unfolding seek_of if◌then◌else◌ check_answer
+unfolding seek_of when◌then◌else◌ check_answer
 form_empty phrases s z h e = simp eq-eqb e
 
 pub form_starts : (phrases : Bool) (s : List ℕ) → (length s ≡ 0 → ⊥) → Forming phrases s (replicate 256 false) 0 0
-unfolding seek_of if◌then◌else◌ any
+unfolding seek_of when◌then◌else◌ any
 form_starts phrases s h =
     record {
       before = [];

@@ -7,7 +7,7 @@ use mathlib.Core.Option.{Option, none, some}
 use mathlib.Core.Path.{◌≡◌, refl, sym, ◌∙◌, ap}
 use lib.ListN.{length}
 use native.Mathlib.Omega.{arith}
-use Rattle.model.specs.Words.{if◌then◌else◌, ◌≡?◌, is_some, ◌otherwise◌, ◌or_else◌, first_said, Placed}
+use Rattle.model.specs.Words.{when◌then◌else◌, ◌≡?◌, is_some, ◌otherwise◌, ◌or_else◌, first_said, Placed}
 use Rattle.model.specs.Item.{is_fine}
 use Rattle.model.specs.Seek.{Entry, Entry.start, Entry.stop, Entry.phrase, Entry.order, tag, seek_of, Addresses, start_in, stop_in, phrase_in, order_in, letters_from, start_point, stop_point, phrase_of, order_list, order_place, points_said, found_phrase}
 use Rattle.model.specs.Track.{point_width}
@@ -144,7 +144,7 @@ pub ruleset pointing = (points_start, points_end, points_turn, walk_known, walk_
 -- A LETTER'S PHRASE
 
 phrase_read : (letter : ℕ) (s : List ℕ) (at : ℕ) (entry : ReadEntry) → phrase_named letter entry ≡ found_phrase (phrase_in letter (entry_of s at entry))
-unfolding phrase_named found_phrase phrase_in entry_of if◌then◌else◌
+unfolding phrase_named found_phrase phrase_in entry_of when◌then◌else◌
 phrase_read letter s at (Start value next) = refl
 phrase_read letter s at (Stop value next) = refl
 phrase_read letter s at (Phrase name from to next) = by_test (name ≡? letter) (λ h. simp h) (λ h. simp h)

@@ -5,7 +5,7 @@ use mathlib.Core.Bool.{Bool, true, false}
 use mathlib.Core.Path.{◌≡◌, refl, sym, ◌∙◌, ap₂, subst}
 use lib.ListN.{length}
 use native.Mathlib.Omega.{arith}
-use Rattle.model.specs.Words.{if◌then◌else◌, ◌≡?◌, is_some, Placed, Checked, Checked.fine, Checked.refused, ◌>>◌, all_pass, Step, Step.met, Step.stuck, walk_to, in_turn}
+use Rattle.model.specs.Words.{when◌then◌else◌, ◌≡?◌, is_some, Placed, Checked, Checked.fine, Checked.refused, ◌>>◌, all_pass, Step, Step.met, Step.stuck, walk_to, in_turn}
 use Rattle.model.specs.Bytes.{part}
 use Rattle.model.specs.Item.{is_fine, found}
 use Rattle.model.specs.Seek.{Entry, Entry.start, Entry.stop, Entry.phrase, Entry.order, entry_at, followed, entry_met, entry_step, in_order, seek_of, phrase_of}
@@ -60,10 +60,10 @@ unfolding in_order
 order_at before entry = if_all (RefusedAt entry.place) _ _ _ (λ h. refl) (λ h. if_all (RefusedAt entry.place) _ _ _ (λ i. refl) (λ i. tt))
 
 pub form_refused_within : (width : ℕ) (s : List ℕ) (n place : ℕ) → seek_of width s ≡ refused n place → place ≤ length s
-unfolding seek_of if◌then◌else◌ walk_to
+unfolding seek_of when◌then◌else◌ walk_to
 form_refused_within width s n place e = go (length s ≡? 0) e
   where
-    go : (t : Bool) → (if t then refused 12 0 else in_turn in_order [] (walk_to 12 (length s) (entry_step width s) 0)) ≡ refused n place → place ≤ length s
+    go : (t : Bool) → (when t then refused 12 0 else in_turn in_order [] (walk_to 12 (length s) (entry_step width s) 0)) ≡ refused n place → place ≤ length s
     go true q = let same : ◌≡◌ {A = ℕ} 0 place = cc in omega arith
     go false q =
         refused_within 12 (length s) (entry_step width s) in_order (λ at h. entry_goes width s at)

@@ -1,6 +1,6 @@
 -- An entry and the place of the next one, as the walks of a seek body pass on; and what the check of their order remembers of them.
 use Rattle.std.specs.Prelude.{ℕ, ◌+◌, ◌≤◌, List, Bool, true, false, ◌≡◌, length}
-use Rattle.model.specs.Words.{if◌then◌else◌, ◌≤?◌, ◌≡?◌}
+use Rattle.model.specs.Words.{when◌then◌else◌, ◌≤?◌, ◌≡?◌}
 use Rattle.model.specs.Bytes.{◌!◌}
 use Rattle.model.specs.Seek.{entry_at}
 use Rattle.model.specs.declared.ReadEntry.{ReadEntry}
@@ -32,8 +32,8 @@ moved_to place Refused = Refused
 -- An entry up to the end of the body, or up to its comma and past it; another byte after the data is that entry's fault.
 unfoldable pub past_comma : List ℕ → ReadEntry → ReadEntry
 past_comma s entry =
-    if length s ≤? end_of entry then entry else
-    if s ! end_of entry ≡? 0x2C then moved_to (end_of entry + 1) entry else
+    when length s ≤? end_of entry then entry else
+    when s ! end_of entry ≡? 0x2C then moved_to (end_of entry + 1) entry else
     Refused
 
 -- the entry at a place, and the place of the next one

@@ -1,6 +1,6 @@
 -- What one entry says, as a reader's answer has it: how it adds to the points said before it, and the phrase that it names.
 use Rattle.std.specs.Prelude.{ℕ, ◌+◌, true, false}
-use Rattle.model.specs.Words.{if◌then◌else◌, ◌≡?◌}
+use Rattle.model.specs.Words.{when◌then◌else◌, ◌≡?◌}
 use Rattle.model.specs.declared.Points.{Points}
 use Rattle.model.specs.declared.FoundPhrase.{FoundPhrase}
 use Rattle.model.specs.declared.FoundPhrase.TheVariants.{Between, Nowhere}
@@ -47,6 +47,6 @@ noted points at Refused = points
 unfoldable pub phrase_named : ℕ → ReadEntry → FoundPhrase
 phrase_named wanted (Start value next) = Nowhere
 phrase_named wanted (Stop value next) = Nowhere
-phrase_named wanted (Phrase letter from to next) = if letter ≡? wanted then Between from to else Nowhere
+phrase_named wanted (Phrase letter from to next) = when letter ≡? wanted then Between from to else Nowhere
 phrase_named wanted (Order letters next) = Nowhere
 phrase_named wanted Refused = Nowhere

@@ -7,7 +7,7 @@ use lib.ListN.{length, take, drop}
 use native.Mathlib.Omega.{arith}
 use mir.Val.{Fits}
 use mir.Syntax.{w64}
-use Rattle.model.specs.Words.{if◌then◌else◌}
+use Rattle.model.specs.Words.{when◌then◌else◌}
 use Rattle.model.specs.Bytes.{◌!◌, part}
 use Rattle.model.specs.TimeBase.{is_time_base, time_base_of}
 use Rattle.model.specs.Item.{setup_of, check_answer}
@@ -67,18 +67,18 @@ pub ruleset kinds = (found_seek, found_setup, found_sequence)
 -- time bases
 
 pub base_known : (code : ℕ) (r : FoundTimeBase) (base : TimeBase) → r ≡ time_base_of code → r ≡ Known base → true ≡ is_time_base code
-unfolding time_base_of if◌then◌else◌
+unfolding time_base_of when◌then◌else◌
 base_known code r base p q = go (is_time_base code) (sym p ∙ q)
   where
-    go : (t : Bool) → (if t then Known (record { code = code }) else Unknown) ≡ Known base → true ≡ t
+    go : (t : Bool) → (when t then Known (record { code = code }) else Unknown) ≡ Known base → true ≡ t
     go true e = refl
     go false e = let z : ◌≡◌ {A = ℕ} 0 1 = cc in absurd (omega arith)
 
 pub base_unknown : (code : ℕ) (r : FoundTimeBase) → r ≡ time_base_of code → r ≡ Unknown → false ≡ is_time_base code
-unfolding time_base_of if◌then◌else◌
+unfolding time_base_of when◌then◌else◌
 base_unknown code r p q = go (is_time_base code) (sym p ∙ q)
   where
-    go : (t : Bool) → (if t then Known (record { code = code }) else Unknown) ≡ Unknown → false ≡ t
+    go : (t : Bool) → (when t then Known (record { code = code }) else Unknown) ≡ Unknown → false ≡ t
     go true e = let z : ◌≡◌ {A = ℕ} 0 1 = cc in absurd (omega arith)
     go false e = refl
 

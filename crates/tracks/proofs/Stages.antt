@@ -7,7 +7,7 @@ use mathlib.Core.Option.{Option, none, some}
 use lib.ListN.{length}
 use native.Mathlib.Omega.{arith}
 use borrow.Author.Tests.{ltb-false, not-true, not-false}
-use Rattle.model.specs.Words.{if◌then◌else◌, ◌<?◌, ◌≡?◌, first, Placed, Checked, Checked.fine, Checked.refused, passed, ◌>>=◌, ◌>>◌, counted_from, Step.met}
+use Rattle.model.specs.Words.{when◌then◌else◌, ◌<?◌, ◌≡?◌, first, Placed, Checked, Checked.fine, Checked.refused, passed, ◌>>=◌, ◌>>◌, counted_from, Step.met}
 use Rattle.model.specs.Bytes.{◌!◌, part}
 use Rattle.model.specs.Item.{Item, is_fine, found, body_of, items_of, check_answer}
 use Rattle.model.specs.Chunk.{Chunk, read_chunk, chunk_met, chunk_step, chunk_list, found_chunk}
@@ -156,7 +156,7 @@ module _ (voice : Voice) (s : List ℕ) (header start end : ℕ) (f : FoundChunk
 
   module _ (place size : ℕ) (e : f ≡ At place size) where
     sequence_there : after_parts s voice (bare header 0) (found (chunks_in s start end))
-        ≡ ((if has_waves voice (found (chunks_in s start end)) then passed else refused 9 header)
+        ≡ ((when has_waves voice (found (chunks_in s start end)) then passed else refused 9 header)
         >> (setup_holds s (part_named (part_id parts.Setup voice) (found (chunks_in s start end)))
         >> after_setup s voice (bare header 0) (found (chunks_in s start end)) (bare place size)))
     unfolding after_parts required ◌>>=◌
@@ -164,7 +164,7 @@ module _ (voice : Voice) (s : List ℕ) (header start end : ℕ) (f : FoundChunk
         let a = found_at _ place size (sym is ∙ e) in
         let all = found (chunks_in s start end) in
         rw a.1
-        (ap (λ (t : Checked Track). (if has_waves voice all then passed else refused 9 header) >> (setup_holds s (part_named (part_id parts.Setup voice) all) >> t))
+        (ap (λ (t : Checked Track). (when has_waves voice all then passed else refused 9 header) >> (setup_holds s (part_named (part_id parts.Setup voice) all) >> t))
         (after_bare voice s header all a.0
         ∙ ap (λ (p : ℕ). after_setup s voice (bare header 0) all (bare p a.0.size)) a.2
         ∙ ap (λ (n : ℕ). after_setup s voice (bare header 0) all (bare place n)) a.3))

@@ -2,7 +2,7 @@
 -- of a track from one of them on. A track is refused by the first of these that refuses.
 use Rattle.std.specs.Prelude.{ℕ, ◌+◌, ◌≤◌, List, length}
 use Rattle.std.proofs.Math.Option.{Option, none, some}
-use Rattle.model.specs.Words.{if◌then◌else◌, ◌≡?◌, Checked, Checked.fine, Checked.refused, passed, ◌>>=◌, ◌>>◌, counted_from}
+use Rattle.model.specs.Words.{when◌then◌else◌, ◌≡?◌, Checked, Checked.fine, Checked.refused, passed, ◌>>=◌, ◌>>◌, counted_from}
 use Rattle.model.specs.Bytes.{◌!◌}
 use Rattle.model.specs.Chunk.{Chunk, body_place, place_after, body_bytes, chunk_list}
 use Rattle.model.specs.Item.{body_of}
@@ -60,7 +60,7 @@ after_setup s voice chunk parts sequence = do
 unfoldable pub after_parts : List ℕ → Voice → Chunk → List Chunk → Checked Track
 after_parts s voice chunk parts = do
   sequence ← required chunk.place (part_named (part_id part.Sequence voice) parts)
-  if has_waves voice parts then passed else refused 9 chunk.place
+  when has_waves voice parts then passed else refused 9 chunk.place
   setup_holds s (part_named (part_id part.Setup voice) parts)
   after_setup s voice chunk parts sequence
 

@@ -6,7 +6,7 @@ use mathlib.Core.Path.{◌≡◌, refl, sym, ◌∙◌, ap, subst}
 use lib.ListN.{length, drop, length-append}
 use native.Mathlib.Omega.{arith}
 use borrow.Author.Tests.{le-ltb}
-use Rattle.model.specs.Words.{if◌then◌else◌, ◌or◌, ◌≡?◌, any, Checked.fine, passed, ◌>>◌, Step.met}
+use Rattle.model.specs.Words.{when◌then◌else◌, ◌or◌, ◌≡?◌, any, Checked.fine, passed, ◌>>◌, Step.met}
 use Rattle.model.specs.Words.{Walk, Walk.over, Walk.broken, Walk.◌then◌, walk_to, walk_of, in_turn, unasked}
 use Rattle.model.specs.Bytes.{number}
 use Rattle.model.specs.Chunk.{Chunk, body_bytes, read_chunk, chunk_met, chunk_step, allowed_once, chunk_list}
@@ -53,7 +53,7 @@ module _ (s : List ℕ) (at id : ℕ) (body rest : List ℕ) (e : drop at s ≡ 
 
   module _ (end : ℕ) (small : id < 4294967296) (short : length body < 4294967296) (within : at + 8 + length body ≤ end) where
     chunk_met_lem : chunk_step s end at ≡ met (record { id = id; place = at; size = length body }) (at + 8 + length body)
-    unfolding chunk_step chunk_met read_chunk if◌then◌else◌
+    unfolding chunk_step chunk_met read_chunk when◌then◌else◌
     chunk_met_lem =
         let i = id_read small in
         let n = size_read short in
@@ -125,7 +125,7 @@ any_mapped id (chunk ∷ before) = ap (λ (b : Bool). (chunk.id ≡? id) or b) (
 
 once : (allowed : ℕ → Bool) (before : List Chunk) (chunk : Chunk) → allowed chunk.id ≡ true → any (λ earlier. earlier.id ≡? chunk.id) before ≡ false
     → allowed_once allowed before chunk ≡ passed
-unfolding allowed_once if◌then◌else◌
+unfolding allowed_once when◌then◌else◌
 once allowed before chunk h g = rw (h, g)
 
 row_pass : (allowed : ℕ → Bool) (row : List Bodied) (at : ℕ) (before : List Chunk) → RowAllowed allowed (map (λ chunk. chunk.id) before) row

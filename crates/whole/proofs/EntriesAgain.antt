@@ -7,7 +7,7 @@ use mathlib.Core.Path.{◌≡◌, refl, ◌∙◌}
 use lib.ListN.{length, drop, length-append, length-map}
 use native.Mathlib.Omega.{arith}
 use borrow.Author.Tests.{le-leb, eq-eqb}
-use Rattle.model.specs.Words.{if◌then◌else◌, ◌≤?◌, Placed, placed_from, Checked, Checked.fine, ◌>>=◌, walk_of, in_turn}
+use Rattle.model.specs.Words.{when◌then◌else◌, ◌≤?◌, Placed, placed_from, Checked, Checked.fine, ◌>>=◌, walk_of, in_turn}
 use Rattle.model.specs.Bytes.{◌!◌}
 use Rattle.model.specs.Seek.{Entry, Entry.start, Entry.stop, Entry.phrase, Entry.order, letters_in_front, in_order, seek_of}
 use Rattle.model.specs.Track.{point_width}
@@ -46,7 +46,7 @@ module _ (phrases : Bool) (letters : List ℕ) where
 
   entry_again : (entry : Entry) (rest : List ℕ) → EntryFits (point_width phrases) entry → OrderIs letters entry
       → first_of (entry_numbers entry ++ rest) ≡ fine entry
-  unfolding entry_given entry_numbers if◌then◌else◌
+  unfolding entry_given entry_numbers when◌then◌else◌
   entry_again (start value) rest fits is = simp (point_fits phrases value fits)
   entry_again (stop value) rest fits is = simp (point_fits phrases value fits)
   entry_again (phrase letter from to) rest fits is = simp fits.0

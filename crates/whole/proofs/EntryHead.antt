@@ -8,7 +8,7 @@ use lib.Seq.{drop-drop, get_or-drop}
 use native.Mathlib.Nat.{add-zero}
 use native.Mathlib.Omega.{arith}
 use borrow.Author.Tests.{le-ltb, ne_eqb}
-use Rattle.model.specs.Words.{if◌then◌else◌, ◌and◌}
+use Rattle.model.specs.Words.{when◌then◌else◌, ◌and◌}
 use Rattle.model.specs.Bytes.{◌!◌, number}
 use Rattle.model.specs.Seek.{is_letter, data_at, phrase_at, entry_at}
 use Rattle.model.specs.ChunkBytes.{number_bytes}
@@ -38,9 +38,9 @@ tag_bytes n = refl
 
 module _ (width : ℕ) (s : List ℕ) (at : ℕ) (room : at + 3 ≤ length s) (colon : s ! (at + 2) ≡ 0x3A) where
   pub other_tag : (tagged : ℕ) → (s ! at ≡ 0x50 → ⊥) → number 2 s at ≡ tagged → entry_at width s at ≡ data_at width s tagged (at + 3)
-  unfolding entry_at if◌then◌else◌ ◌and◌
+  unfolding entry_at when◌then◌else◌ ◌and◌
   other_tag tagged other is = simp (le-ltb, colon, ne_eqb, is)
 
   pub phrase_tag : (letter : ℕ) → s ! at ≡ 0x50 → s ! (at + 1) ≡ letter → is_letter letter ≡ true → entry_at width s at ≡ phrase_at s letter (at + 3)
-  unfolding entry_at if◌then◌else◌ ◌and◌
+  unfolding entry_at when◌then◌else◌ ◌and◌
   phrase_tag letter p l known = simp (le-ltb, colon, p, l, known)

@@ -7,7 +7,7 @@ use lib.ListN.{length, take, drop, length-append}
 use lib.Seq.{drop-drop, drop_at, take-append_seam}
 use native.Mathlib.Omega.{arith}
 use borrow.Author.Tests.{le-ltb}
-use Rattle.model.specs.Words.{if◌then◌else◌}
+use Rattle.model.specs.Words.{when◌then◌else◌}
 use Rattle.model.specs.Bytes.{◌!◌, number, part}
 use Rattle.model.specs.Seek.{Entry, Entry.start, Entry.stop, Entry.phrase, Entry.order, is_letter, tag, letters_in_front, data_at, phrase_at, entry_at, followed, entry_met, entry_step}
 use Rattle.model.specs.ChunkBytes.{number_bytes}
@@ -21,7 +21,7 @@ use Rattle.whole.proofs.EntryHead.{Head, head_stands, tag_bytes, other_tag, phra
 -- letters, and behind them what begins with none
 letters_before : (letters rest : List ℕ) → letters_in_front letters ≡ length letters → letters_in_front rest ≡ 0
     → letters_in_front (letters ++ rest) ≡ length letters
-unfolding letters_in_front if◌then◌else◌
+unfolding letters_in_front when◌then◌else◌
 letters_before [] rest all none-follows = none-follows
 letters_before (letter ∷ letters) rest all none-follows =
     by_test (is_letter letter)
@@ -66,7 +66,7 @@ module _ (width : ℕ) (s : List ℕ) (at : ℕ) (rest : List ℕ) where
 
   pub entry_reads : (entry : Entry) → EntryFits width entry → letters_in_front rest ≡ 0 → drop at s ≡ entry_bytes width entry ++ rest
       → entry_step width s at ≡ followed s at (at + length (entry_bytes width entry)) entry
-  unfolding entry_step entry_met data_at phrase_at data_bytes tag if◌then◌else◌
+  unfolding entry_step entry_met data_at phrase_at data_bytes tag when◌then◌else◌
   entry_reads (start value) fits none-follows e =
       let p = point_there (start value) value refl fits e in
       rw (other_there (start value) e (omega arith) (λ q. omega arith), p.2) (simp (le-ltb (length s) (at + 3 + width) p.0, p.1))

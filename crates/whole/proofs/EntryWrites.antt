@@ -9,7 +9,7 @@ use lib.Seq.{drop-drop, drop-cons, take-add}
 use native.Mathlib.Nat.{add-zero}
 use native.Mathlib.Omega.{arith}
 use borrow.Author.Tests.{ltb-false, leb-true, leb-false, eqb-true, not-false}
-use Rattle.model.specs.Words.{if◌then◌else◌, ◌<?◌, Placed, Step, Step.met, Step.stuck}
+use Rattle.model.specs.Words.{when◌then◌else◌, ◌<?◌, Placed, Step, Step.met, Step.stuck}
 use Rattle.model.specs.Bytes.{◌!◌, number, part}
 use Rattle.model.specs.Seek.{Entry, Entry.start, Entry.stop, Entry.phrase, Entry.order, is_letter, tag, letters_in_front, data_at, phrase_at, entry_at, followed, entry_met, entry_step}
 use Rattle.model.specs.ChunkBytes.{number_bytes}
@@ -32,7 +32,7 @@ pub record EntryThere (width : ℕ) (s : List ℕ) (at : ℕ) (entry : Entry) (e
 
 -- the letters in front are letters
 letters_only : (s : List ℕ) → letters_in_front (take (letters_in_front s) s) ≡ letters_in_front s
-unfolding letters_in_front if◌then◌else◌
+unfolding letters_in_front when◌then◌else◌
 letters_only [] = refl
 letters_only (byte ∷ bytes) = by_test (is_letter byte) (λ h. simp h (ap suc (letters_only bytes))) (λ h. simp h)
 

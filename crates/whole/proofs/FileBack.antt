@@ -7,7 +7,7 @@ use mathlib.Core.Path.{◌≡◌, refl, ◌∙◌, ap, subst}
 use lib.ListN.{length, take, length-take}
 use native.Mathlib.Omega.{arith}
 use borrow.Author.Tests.{le-ltb, ltb-false}
-use Rattle.model.specs.Words.{if◌then◌else◌, ◌or◌, Checked.fine, ◌>>◌}
+use Rattle.model.specs.Words.{when◌then◌else◌, ◌or◌, Checked.fine, ◌>>◌}
 use Rattle.model.specs.File.{File, contents_of, file_of}
 use Rattle.model.specs.Arrangement.{Arrangement, file_bytes}
 use Rattle.model.specs.Tables.{arrangement_of}
@@ -21,7 +21,7 @@ use Rattle.whole.proofs.FileReads.{ReadsBack, written_reads}
 -- the front of a buffer that is a file
 file_in_lem : (buffer : List ℕ) (n : ℕ) (s : List ℕ) (file : File) → take n buffer ≡ s → n ≡ length s → n ≤ 65536 → contents_of s ≡ fine file
     → file_of buffer n ≡ fine file
-unfolding file_of if◌then◌else◌ ◌or◌ ◌>>◌
+unfolding file_of when◌then◌else◌ ◌or◌ ◌>>◌
 file_in_lem buffer n s file is long few reads =
     let there : n ≤ length buffer = omega (arith, length-take n buffer, ap length is) in
     rw (le-ltb (length buffer) n there, le-ltb 65536 n few, is) reads

@@ -7,7 +7,7 @@ use mathlib.Core.Path.{◌≡◌, refl, sym, ◌∙◌, ap, subst}
 use lib.ListN.{length, take}
 use native.Mathlib.Omega.{arith}
 use borrow.Author.Tests.{eq-eqb}
-use Rattle.model.specs.Words.{if◌then◌else◌, ◌and◌, ◌≡?◌, Checked.fine, ◌>>=◌, each}
+use Rattle.model.specs.Words.{when◌then◌else◌, ◌and◌, ◌≡?◌, Checked.fine, ◌>>=◌, each}
 use Rattle.model.specs.Bytes.{number, part, CNTI}
 use Rattle.model.specs.CheckCode.{check_code}
 use Rattle.model.specs.Chunk.{Chunk, chunk_at}
@@ -28,7 +28,7 @@ use Rattle.whole.proofs.TracksRead.{body_of_track, row_of_tracks, row_of_tracks_
 
 -- the contents chunk is a closed leaf
 contents_leaf : (s : List ℕ) (at : ℕ) (contents : List ℕ) → top_of s (chunk_from at (bodied CNTI contents)) ≡ fine (leaf (chunk_from at (bodied CNTI contents)))
-unfolding top_of voice_of opened ◌>>=◌ if◌then◌else◌
+unfolding top_of voice_of opened ◌>>=◌ when◌then◌else◌
 contents_leaf s at contents = refl
 
 -- a file, by its frame and what its chunks were opened as

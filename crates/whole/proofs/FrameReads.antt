@@ -7,7 +7,7 @@ use lib.ListN.{length, take, drop, length-append}
 use lib.Seq.{take-append_seam, drop-append_seam}
 use native.Mathlib.Omega.{arith}
 use borrow.Author.Tests.{le-ltb, le-leb, eq-eqb}
-use Rattle.model.specs.Words.{if◌then◌else◌, ◌and◌, ◌or◌, ◌<?◌, ◌≡?◌, any, Checked.fine, ◌>>=◌, ◌>>◌}
+use Rattle.model.specs.Words.{when◌then◌else◌, ◌and◌, ◌or◌, ◌<?◌, ◌≡?◌, any, Checked.fine, ◌>>=◌, ◌>>◌}
 use Rattle.model.specs.Bytes.{number, MMMD, CNTI}
 use Rattle.model.specs.CheckCode.{check_code}
 use Rattle.model.specs.Chunk.{Chunk, chunk_list}
@@ -72,7 +72,7 @@ file_holds row = row_held (file_with (row_bytes row)) row 8 _ (file_follows (row
 frame_passes : (s : List ℕ) (chunks : List Chunk) → (length s <? 10) ≡ false → (number 4 s 0 ≡? MMMD) ≡ true → (number 4 s 4 + 8 ≡? length s) ≡ true
     → chunk_list (is_allowed list.File) s 8 (length s - 2) ≡ fine chunks → opens_with_contents chunks ≡ true → has_one wanted.Track chunks ≡ true
     → frame_of s ≡ fine chunks
-unfolding frame_of if◌then◌else◌ ◌or◌ ◌>>◌ ◌>>=◌
+unfolding frame_of when◌then◌else◌ ◌or◌ ◌>>◌ ◌>>=◌
 frame_passes s chunks long named sized listed opens tracks = rw (long, named, sized, listed, opens, tracks)
 
 row_opens : (at : ℕ) (contents : Bodied) (more : List Bodied) → contents.id ≡ CNTI → 5 ≤ length contents.body

@@ -6,7 +6,7 @@ use mathlib.Core.Path.{◌≡◌, refl, sym, ◌∙◌, ap, subst}
 use lib.ListN.{length, length-map}
 use native.Mathlib.Omega.{arith}
 use borrow.Author.Tests.{le-leb, le-ltb, eq-eqb, ne_eqb, leb-true}
-use Rattle.model.specs.Words.{if◌then◌else◌, ◌and◌, ◌or◌, ◌≤?◌, Placed, Checked.fine, passed, ◌>>=◌, ◌>>◌, told_at, Step.met}
+use Rattle.model.specs.Words.{when◌then◌else◌, ◌and◌, ◌or◌, ◌≤?◌, Placed, Checked.fine, passed, ◌>>=◌, ◌>>◌, told_at, Step.met}
 use Rattle.model.specs.Bytes.{◌!◌, part}
 use Rattle.model.specs.Item.{Item, Item.timed, Item.end_mark, duration_of, item_at, item_met, item_step, body_of}
 use Rattle.model.specs.Word.{word_of, InWord}
@@ -99,13 +99,13 @@ no_mark (Exclusive place size) h e = omega arith
 
 -- IT HAS NO FAULT
 sound_passes : (allowed : Bool) (gate : ℕ) → allowed ≡ true → 1 ≤ gate → gate ≤ 16511 → sound_given allowed gate ≡ passed
-unfolding sound_given if◌then◌else◌
+unfolding sound_given when◌then◌else◌
 sound_passes allowed gate h some few =
     let other : gate ≡ 0 → ⊥ = λ e. omega arith in
     simp (h, ne_eqb, le-ltb)
 
 event_passes : (voice : Voice) (s : List ℕ) (event : Event) → event_fits voice s event ≡ true → event_given s event ≡ passed
-unfolding event_fits control_fits event_given is_wave if◌then◌else◌
+unfolding event_fits control_fits event_given is_wave when◌then◌else◌
 event_passes voice s Nop fits = refl
 event_passes voice s (Note channel key gate) fits =
     let n = is_note_lem voice channel key gate fits in
@@ -130,13 +130,13 @@ item_numbers_length (item ∷ rest) = omega (arith, item_numbers_length rest)
 -- so that its duration and word are taken for it
 word_taken : (voice : Voice) (s : List ℕ) (duration word : ℕ) (event : Event) → duration ≤ 16511 → (kind_in word ≡ 16 → ⊥) → is_kind voice (kind_in word) ≡ true
     → event_in word ≡ event → event_given s event ≡ passed → event_word event ≡ word → item_given voice s duration word ≡ fine (timed duration (content_of s event))
-unfolding item_given word_given if◌then◌else◌ ◌or◌ ◌and◌ ◌>>◌
+unfolding item_given word_given when◌then◌else◌ ◌or◌ ◌and◌ ◌>>◌
 word_taken voice s duration word event short other known says passes exact =
     let same = eq-eqb word word refl in
     simp (le-ltb, ne_eqb, known, says, passes, exact, same)
 
 mark_taken : (voice : Voice) (s : List ℕ) → item_given voice s 0 mark_word ≡ fine end_mark
-unfolding item_given is_kind if◌then◌else◌ ◌or◌ ◌and◌ ◌>>◌
+unfolding item_given is_kind when◌then◌else◌ ◌or◌ ◌and◌ ◌>>◌
 mark_taken Score s = refl
 mark_taken Pcm s = refl
 
@@ -181,7 +181,7 @@ module _ (voice : Voice) (s : List ℕ) (bytes : (k : ℕ) → s ! k < 256) (sma
 
   pub items_given_again : (placed : List (Placed (Item Event))) → body_of voice s ≡ fine placed
       → items_given voice s (items_numbers placed) ≡ fine (contents_in s placed)
-  unfolding items_given if◌then◌else◌ contents_in
+  unfolding items_given when◌then◌else◌ contents_in
   items_given_again placed reads =
       let count : length (items_numbers placed) / 2 ≡ length placed = omega (arith, item_numbers_length placed) in
       let some : length placed ≡ 0 → ⊥ = λ e. omega (arith, body_some voice s bytes placed reads, length-map placed (λ item. content_in s item.what)) in

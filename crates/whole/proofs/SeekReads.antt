@@ -7,7 +7,7 @@ use lib.Seq.{drop-drop, drop_at, get_or-drop}
 use native.Mathlib.Nat.{add-zero}
 use native.Mathlib.Omega.{arith}
 use borrow.Author.Tests.{le-leb, lt-leb}
-use Rattle.model.specs.Words.{if◌then◌else◌, ◌and◌, ◌or◌, any, Placed, placed_from, Checked.fine, Step.met, walk_of, in_turn}
+use Rattle.model.specs.Words.{when◌then◌else◌, ◌and◌, ◌or◌, any, Placed, placed_from, Checked.fine, Step.met, walk_of, in_turn}
 use Rattle.model.specs.Bytes.{◌!◌}
 use Rattle.model.specs.Seek.{Entry, is_letter, letters_in_front, followed, entry_step, in_order, seek_of}
 use Rattle.model.specs.SeekBytes.{entry_bytes, further_bytes, seek_bytes, entries_placed}
@@ -19,18 +19,18 @@ use Rattle.whole.proofs.EntryReads.{entry_length, entry_reads}
 
 -- no letter stands behind an entry
 further_letters : (width : ℕ) (entries : List Entry) → letters_in_front (further_bytes width entries) ≡ 0
-unfolding further_bytes letters_in_front is_letter any ◌and◌ ◌or◌ if◌then◌else◌
+unfolding further_bytes letters_in_front is_letter any ◌and◌ ◌or◌ when◌then◌else◌
 further_letters width [] = refl
 further_letters width (entry ∷ entries) = refl
 
 -- what follows an entry: the end, or a comma
 module _ (s : List ℕ) (at next : ℕ) (entry : Entry) where
   followed_end : length s ≤ next → followed s at next entry ≡ met (record { place = at; what = entry }) next
-  unfolding followed if◌then◌else◌
+  unfolding followed when◌then◌else◌
   followed_end h = simp le-leb
 
   followed_comma : next < length s → s ! next ≡ 0x2C → followed s at next entry ≡ met (record { place = at; what = entry }) (next + 1)
-  unfolding followed if◌then◌else◌
+  unfolding followed when◌then◌else◌
   followed_comma h comma = simp (lt-leb, comma)
 
 module _ (width : ℕ) (s : List ℕ) where

@@ -8,7 +8,7 @@ use lib.ListN.{length, take, length-append}
 use lib.Seq.{take_at, drop_at}
 use native.Mathlib.Omega.{arith}
 use borrow.Author.Tests.{ne_eqb, le-ltb}
-use Rattle.model.specs.Words.{if◌then◌else◌, ◌or◌, Checked.fine, ◌>>=◌, ◌>>◌, told_at}
+use Rattle.model.specs.Words.{when◌then◌else◌, ◌or◌, Checked.fine, ◌>>=◌, ◌>>◌, told_at}
 use Rattle.model.specs.Bytes.{part}
 use Rattle.model.specs.File.{Top, Top.leaf, Top.readable, File, contents_of}
 use Rattle.model.specs.SeekBytes.{entries_numbers}
@@ -82,7 +82,7 @@ module _ (s : List ℕ) (bytes : AllBelow 256 s) (file : File) (reads : contents
         ∙ rw laid.tops (tables_split s laid.tracks (length (numbers_held laid.tracks)) laid.laid (omega arith))
 
     all_taken : arrangement_of numbers others ≡ fine (held_in s file)
-    unfolding arrangement_of held_in tracks_held if◌then◌else◌ ◌>>◌ ◌>>=◌
+    unfolding arrangement_of held_in tracks_held when◌then◌else◌ ◌>>◌ ◌>>=◌
     all_taken =
         let front : take 5 others ≡ part s 16 5 = take_at (part s 16 5) (bytes_held s file.tops) 5 contents_long in
         let many : length (givens_held s laid.tracks) ≡ 0 → ⊥ = λ e. omega (arith, givens_long s laid.tracks laid.laid, file_tracked s file laid) in
@@ -107,7 +107,7 @@ module _ (s : List ℕ) (bytes : AllBelow 256 s) (file : File) (reads : contents
         rw laid.tops (omega (arith, ap length laid.tops))
 
     pub writes_again : write_of (numbers_held file.tops) (part s 16 5 ++ bytes_held s file.tops) room ≡ fine s
-    unfolding write_of within_room if◌then◌else◌ ◌or◌ ◌>>◌ ◌>>=◌
+    unfolding write_of within_room when◌then◌else◌ ◌or◌ ◌>>◌ ◌>>=◌
     writes_again =
         let same = read_writes s bytes file reads ok right in
         rw (tables_given_again, le-ltb 16 (length (held_in s file).tracks) tracks_few, same, le-ltb 65536 (length s) few, le-ltb room (length s) enough) refl

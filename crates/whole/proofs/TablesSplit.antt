@@ -5,7 +5,7 @@ use mathlib.Core.Path.{◌≡◌, refl, sym, ◌∙◌, ap}
 use lib.ListN.{length, drop, length-append, length-drop}
 use native.Mathlib.Omega.{arith}
 use borrow.Author.Tests.{le-ltb}
-use Rattle.model.specs.Words.{if◌then◌else◌, ◌or◌}
+use Rattle.model.specs.Words.{when◌then◌else◌, ◌or◌}
 use Rattle.model.specs.Bytes.{part}
 use Rattle.model.specs.Tables.{Given, numbers_taken, bytes_taken, first_given, given_from}
 use Rattle.whole.proofs.Following.{follows_behind, follows_part}
@@ -88,13 +88,13 @@ module _ (given : Given) (entries items : ℕ) (six : length given.fixed ≡ 6) 
   bytes_there = omega (arith, length-drop 1 all_bytes, ap length fixed_follow, length-append given.fixed (given.letters ++ (given.source ++ bytes)))
 
   pub split_first : (turns : ℕ) → given_from (suc turns) all_numbers all_bytes ≡ given ∷ given_from turns numbers bytes
-  unfolding given_from if◌then◌else◌ ◌or◌
+  unfolding given_from when◌then◌else◌ ◌or◌
   split_first turns =
       let enough = le-ltb (length all_numbers) 4 numbers_there in
       let long = le-ltb (length all_bytes) 7 bytes_there in
       rw (enough, long, first_is, numbers_behind, bytes_behind) refl
 
 pub split_none : (turns : ℕ) (bytes : List ℕ) → given_from turns [] bytes ≡ []
-unfolding given_from if◌then◌else◌ ◌or◌
+unfolding given_from when◌then◌else◌ ◌or◌
 split_none zero bytes = refl
 split_none (suc turns) bytes = refl

@@ -8,7 +8,7 @@ use mathlib.Core.Path.{◌≡◌, refl, sym, ◌∙◌, ap, subst}
 use lib.ListN.{length}
 use native.Mathlib.Omega.{arith}
 use borrow.Author.Tests.{eq-eqb}
-use Rattle.model.specs.Words.{if◌then◌else◌, ◌and◌, Placed, Checked.fine, passed, ◌>>=◌, ◌>>◌, all_pass}
+use Rattle.model.specs.Words.{when◌then◌else◌, ◌and◌, Placed, Checked.fine, passed, ◌>>=◌, ◌>>◌, all_pass}
 use Rattle.model.specs.Bytes.{◌!◌, part, MspI}
 use Rattle.model.specs.Chunk.{Chunk, body_place}
 use Rattle.model.specs.Item.{Item}
@@ -85,7 +85,7 @@ module _ (s : List ℕ) (bytes : AllBelow 256 s) (few : length s ≤ 65536) (chu
   fixed = part s (body_place chunk) fixed_size
 
   fixed_again : fixed_given fixed ≡ passed
-  unfolding fixed_given if◌then◌else◌ ◌and◌
+  unfolding fixed_given when◌then◌else◌ ◌and◌
   fixed_again = rw (eq-eqb (fixed ! 0) 0 laid.format, laid.fits)
 
   pub track_given_again : track_given (given_held s chunk track) ≡ fine (track_held s chunk track)

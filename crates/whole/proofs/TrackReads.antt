@@ -8,7 +8,7 @@ use lib.ListN.{length, drop, length-append, get_or-append}
 use native.Mathlib.Nat.{add-zero}
 use native.Mathlib.Omega.{arith}
 use borrow.Author.Tests.{le-ltb, eq-eqb, ne_eqb}
-use Rattle.model.specs.Words.{if◌then◌else◌, ◌or◌, ◌<?◌, ◌≡?◌, any, first, Placed, Checked.fine, passed, ◌>>=◌, ◌>>◌, counted_from}
+use Rattle.model.specs.Words.{when◌then◌else◌, ◌or◌, ◌<?◌, ◌≡?◌, any, first, Placed, Checked.fine, passed, ◌>>=◌, ◌>>◌, counted_from}
 use Rattle.model.specs.Bytes.{◌!◌, MTR, MspI, Mtsu, Mtsq}
 use Rattle.model.specs.Chunk.{Chunk, body_place, place_after, body_bytes, chunk_list}
 use Rattle.model.specs.Item.{Item, body_of}
@@ -47,7 +47,7 @@ track_passes : (s : List ℕ) (chunk : Chunk) (parts : List Chunk) (sequence : C
       items = items;
       entries = entries;
     })
-unfolding track_of required has_waves setup_holds counted_from if◌then◌else◌ ◌>>◌ ◌>>=◌
+unfolding track_of required has_waves setup_holds counted_from when◌then◌else◌ ◌>>◌ ◌>>=◌
 track_passes s chunk parts sequence phrases base_d base_g body items entries fixed listed named setup same reads phrased d g sought =
     rw (fixed, listed, named, setup, same, reads, phrased, sought, d, g)
 
@@ -67,12 +67,12 @@ sequence_from at none body = record { id = Mtsq; place = at; size = length body 
 sequence_from at (some seek) body = record { id = Mtsq; place = at + 8 + length seek; size = length body }
 
 sequence_found : (at : ℕ) (seek : Option (List ℕ)) (body : List ℕ) → part_named Mtsq (chunks_from at (track_row seek body)) ≡ some (sequence_from at seek body)
-unfolding part_named first if◌then◌else◌ chunks_from track_row
+unfolding part_named first when◌then◌else◌ chunks_from track_row
 sequence_found at none body = refl
 sequence_found at (some seek) body = refl
 
 setup_missing : (at : ℕ) (seek : Option (List ℕ)) (body : List ℕ) → part_named Mtsu (chunks_from at (track_row seek body)) ≡ none
-unfolding part_named first if◌then◌else◌ chunks_from track_row
+unfolding part_named first when◌then◌else◌ chunks_from track_row
 setup_missing at none body = refl
 setup_missing at (some seek) body = refl
 
@@ -85,7 +85,7 @@ sequence_held s at (some seek) body held = held.1.0
 entries_said_lem : (s : List ℕ) (at : ℕ) (seek : Option (List ℕ)) (body : List ℕ) (phrases : Bool) (items : List (Placed (Item Event))) (size : ℕ)
     (entries : List (Placed Entry)) → RowHeld s at (track_row seek body) → SeekReads phrases items size seek entries
     → entries_of phrases items size s (part_named MspI (chunks_from at (track_row seek body))) ≡ fine entries
-unfolding part_named first if◌then◌else◌ chunks_from track_row entries_of counted_from
+unfolding part_named first when◌then◌else◌ chunks_from track_row entries_of counted_from
 entries_said_lem s at none body phrases items size entries held said = ap fine (sym said)
 entries_said_lem s at (some seek) body phrases items size entries held said =
     ap (λ (l : List ℕ). counted_from (at + 8) (seek_in phrases items size l)) held.0 ∙ ap (counted_from (at + 8)) said
@@ -114,14 +114,14 @@ module _ (s : List ℕ) (chunk : Chunk) (number : ℕ) (fixed : List ℕ) (seek 
   first_fixed = ap (λ (n : ℕ). s ! n) (sym (add-zero (body_place chunk))) ∙ fixed_at 0 (omega arith) ∙ format
 
   pub voice_read : voice_of s chunk ≡ fine (some Score)
-  unfolding voice_of score_voice if◌then◌else◌ ◌or◌
+  unfolding voice_of score_voice when◌then◌else◌ ◌or◌
   voice_read =
       let is_score : (chunk.id / 256 ≡? MTR) ≡ true = eq-eqb (chunk.id / 256) MTR (omega arith) in
       let some_body : (chunk.size ≡? 0) ≡ false = ne_eqb chunk.size 0 (λ z. omega (arith, long)) in
       rw (is_score, some_body, first_fixed)
 
   pub fixed_read : fixed_holds Score s chunk ≡ passed
-  unfolding fixed_holds fixed_fits if◌then◌else◌
+  unfolding fixed_holds fixed_fits when◌then◌else◌
   fixed_read =
       let room : (chunk.size <? 6) ≡ false = le-ltb chunk.size 6 (omega (arith, long)) in
       rw (room, fixed_at 1 (omega arith), fixed_at 2 (omega arith), fixed_at 3 (omega arith), fits)

@@ -9,7 +9,7 @@ use lib.ListN.{length}
 use native.Mathlib.Nat.{add-zero}
 use native.Mathlib.Omega.{arith}
 use borrow.Author.Tests.{eq-eqb, ne_eqb, eqb-true}
-use Rattle.model.specs.Words.{if◌then◌else◌, ◌or◌, ◌<?◌, ◌≤?◌, ◌≡?◌, first, Placed, Checked.fine}
+use Rattle.model.specs.Words.{when◌then◌else◌, ◌or◌, ◌<?◌, ◌≤?◌, ◌≡?◌, first, Placed, Checked.fine}
 use Rattle.model.specs.Bytes.{◌!◌, part, MTR, MspI, Mtsq}
 use Rattle.model.specs.Chunk.{Chunk, body_place, place_after, body_bytes, chunk_step}
 use Rattle.model.specs.Item.{Item, is_fine, body_of}
@@ -55,7 +55,7 @@ pub record TrackLaid (s : List ℕ) (chunk : Chunk) (track : Track) : Type 0 whe
 
 -- ITS VOICE
 score_voice_lem : (s : List ℕ) (body size : ℕ) (voice : Voice) → score_voice s body size ≡ fine (some voice) → (voice ≡ Score) × (s ! body ≡ 0)
-unfolding score_voice if◌then◌else◌
+unfolding score_voice when◌then◌else◌
 score_voice_lem s body size voice e =
     by_test ((size ≡? 0) or (3 ≤? s ! body))
     (λ h. let no = rw h at e in let z : ◌≡◌ {A = ℕ} 0 1 = cc in absurd (omega arith))
@@ -66,13 +66,13 @@ score_voice_lem s body size voice e =
 
 track_score : (s : List ℕ) (chunk : Chunk) (voice : Voice) → chunk.id / 256 ≡ MTR → voice_of s chunk ≡ fine (some voice)
     → (voice ≡ Score) × (s ! body_place chunk ≡ 0)
-unfolding voice_of if◌then◌else◌
+unfolding voice_of when◌then◌else◌
 track_score s chunk voice score e =
     score_voice_lem s (body_place chunk) chunk.size voice (rw (eq-eqb (chunk.id / 256) MTR score) at e)
 
 -- ITS FIXED BYTES, in the file and apart
 fixed_passed : (s : List ℕ) (chunk : Chunk) → is_fine (fixed_holds Score s chunk) ≡ true → fixed_fits Score s (body_place chunk) ≡ true
-unfolding fixed_holds if◌then◌else◌ is_fine
+unfolding fixed_holds when◌then◌else◌ is_fine
 fixed_passed s chunk e =
     by_test (fixed_fits Score s (body_place chunk)) (λ h. h)
     (λ h.

@@ -7,7 +7,7 @@ use lib.ListN.{length, drop}
 use lib.Seq.{sets, sets-eq}
 use native.Mathlib.Omega.{arith}
 use borrow.Author.Tests.{le-ltb, lt-ltb}
-use Rattle.model.specs.Words.{if◌then◌else◌, ◌or◌, Checked, Checked.fine, Checked.refused, ◌>>=◌}
+use Rattle.model.specs.Words.{when◌then◌else◌, ◌or◌, Checked, Checked.fine, Checked.refused, ◌>>=◌}
 use Rattle.model.specs.Item.{Item, is_fine}
 use Rattle.model.specs.Plain.{bytes_of}
 use Rattle.model.specs.Content.{Content, handy_phone}
@@ -77,11 +77,11 @@ module _ (voice : Voice) (source numbers l : List ℕ) (answer : Wrote) (found :
       over_kept = rw over
 
     too_long : 65536 < size → outcome ≡ refused 24 0
-    unfolding within_room if◌then◌else◌ ◌or◌
+    unfolding within_room when◌then◌else◌ ◌or◌
     too_long h = let over = limited_over (length bytes) 65536 (omega arith) (omega (arith, these.2)) in within ∙ simp lt-ltb
 
     no_room : size ≤ 65536 → length l < size → outcome ≡ refused 24 0
-    unfolding within_room if◌then◌else◌ ◌or◌
+    unfolding within_room when◌then◌else◌ ◌or◌
     no_room few h =
         let exact = limited_exact (length bytes) (omega (arith, these.2)) in
         let small : length bytes ≤ 65536 = omega (arith, these.2) in
@@ -106,7 +106,7 @@ module _ (voice : Voice) (source numbers l : List ℕ) (answer : Wrote) (found :
       exact = let e = limited_exact (length bytes) (omega (arith, these.2)) in these.2 ∙ e
 
       is_fine_lem : outcome ≡ fine bytes
-      unfolding within_room if◌then◌else◌ ◌or◌
+      unfolding within_room when◌then◌else◌ ◌or◌
       is_fine_lem =
           let small : length bytes ≤ 65536 = omega (arith, exact) in
           let fits : length bytes ≤ length l = omega (arith, exact) in

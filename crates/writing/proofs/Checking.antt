@@ -7,7 +7,7 @@ use lib.ListN.{length, length-append}
 use native.Mathlib.Nat.{add-zero, zero-add, sub-zero}
 use native.Mathlib.Omega.{arith}
 use borrow.Author.Tests.{ne_eqb}
-use Rattle.model.specs.Words.{if◌then◌else◌, ◌≡?◌, Checked, Checked.fine, Checked.refused, ◌>>=◌, told_at}
+use Rattle.model.specs.Words.{when◌then◌else◌, ◌≡?◌, Checked, Checked.fine, Checked.refused, ◌>>=◌, told_at}
 use Rattle.model.specs.Bytes.{◌!◌}
 use Rattle.model.specs.Duration.{duration_bytes}
 use Rattle.model.specs.Item.{Item, Item.timed, Item.end_mark, is_fine}
@@ -171,7 +171,7 @@ check_starts voice source numbers index taken size c e =
 
 module _ (voice : Voice) (source numbers : List ℕ) (count : ℕ) (counted : count ≡ length numbers / 2) where
   pub check_none : count ≡ 0 → Refused 11 0 ≡ size_answer (items_given voice source numbers)
-  unfolding items_given size_answer if◌then◌else◌
+  unfolding items_given size_answer when◌then◌else◌
   check_none h = let e : length numbers / 2 ≡ 0 = sym counted ∙ h in simp e
 
   module _ (some : count ≡ 0 → ⊥) (size i : ℕ) (r : Checking voice source numbers size i) where

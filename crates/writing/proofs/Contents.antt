@@ -9,7 +9,7 @@ use native.Mathlib.Decide.{dec_lt}
 use native.Mathlib.Numerals.{towards_suc}
 use native.Mathlib.Omega.{arith}
 use borrow.Author.Tests.{le-ltb, lt-ltb}
-use Rattle.model.specs.Words.{if◌then◌else◌}
+use Rattle.model.specs.Words.{when◌then◌else◌}
 use Rattle.model.specs.Bytes.{part}
 use Rattle.model.specs.Content.{content_of, control_bytes, content_bytes}
 use Rattle.model.specs.Writing.{event_fits}
@@ -93,7 +93,7 @@ module _ (voice : Voice) (s : List ℕ) (event : Event) where
 pub ruleset contents = (note_fit, wave_fit, control_fit, exclusive_inside, note_bytes, wave_bytes, control_bytes_lem, exclusive_bytes_lem, event_room, event_next, event_wrote, nop_room, nop_second, nop_next, nop_wrote)
 
 pub event_length_lem : (voice : Voice) (s : List ℕ) (event : Event) → event_fits voice s event ≡ true → length (content_bytes (content_of s event)) ≡ event_size event
-unfolding event_fits content_of content_bytes event_size if◌then◌else◌
+unfolding event_fits content_of content_bytes event_size when◌then◌else◌
 event_length_lem voice s Nop h = refl
 event_length_lem voice s (Note channel key gate) h = omega arith
 event_length_lem voice s (Wave channel number gate) h = omega arith

@@ -8,15 +8,15 @@ use native.Mathlib.Decide.{dec_lt}
 use native.Mathlib.Numerals.{towards_suc}
 use native.Mathlib.Omega.{arith}
 use borrow.Author.Tests.{le-ltb, lt-ltb}
-use Rattle.model.specs.Words.{if◌then◌else◌}
+use Rattle.model.specs.Words.{when◌then◌else◌}
 use Rattle.model.specs.Duration.{duration_bytes}
 
 pub one_byte : (value : ℕ) → value < 128 → duration_bytes value ≡ value ∷ []
-unfolding duration_bytes if◌then◌else◌
+unfolding duration_bytes when◌then◌else◌
 one_byte value h = simp lt-ltb
 
 pub two_bytes : (value : ℕ) → 128 ≤ value → duration_bytes value ≡ ((value - 128) / 128 + 128) ∷ ((value - 128) % 128) ∷ []
-unfolding duration_bytes if◌then◌else◌
+unfolding duration_bytes when◌then◌else◌
 two_bytes value h = simp le-ltb
 
 pub size_one : (value : ℕ) → value < 128 → 1 ≡ length (duration_bytes value)

@@ -8,7 +8,7 @@ use lib.ListN.{length}
 use native.Mathlib.Decide.{dec_lt}
 use native.Mathlib.Omega.{arith}
 use borrow.Author.Tests.{le-ltb, lt-ltb, le-leb, lt-leb, ne_eqb, leb-true, eqb-true}
-use Rattle.model.specs.Words.{if◌then◌else◌, ◌and◌, ◌≤?◌}
+use Rattle.model.specs.Words.{when◌then◌else◌, ◌and◌, ◌≤?◌}
 use Rattle.model.specs.Bytes.{◌!◌}
 use Rattle.model.specs.Duration.{two_byte_value, duration_at, not_zero, gate_at, duration_bytes}
 use Rattle.model.specs.Event.{is_note, is_wave, is_sound, sound, gated, sound_at, long_at, short_at, formed, control_at, closed_at, exclusive_at, system_at, event_at}
@@ -29,12 +29,12 @@ use Rattle.writing.proofs.Stands.{Stands, stands_byte, stands_within, stands_par
 
 -- durations and gate times
 short_back : (s : List ℕ) (at value : ℕ) → value < 128 → Stands s at (value ∷ []) → duration_at s at ≡ duration.Is value (at + 1)
-unfolding duration_at if◌then◌else◌
+unfolding duration_at when◌then◌else◌
 short_back s at value h st = let a = st.0 in let e = st.1 in simp (lt-leb, lt-ltb, e)
 
 long_back : (s : List ℕ) (at one two : ℕ) → 128 ≤ one → two < 128 → Stands s at (one ∷ two ∷ [])
     → duration_at s at ≡ duration.Is (two_byte_value one two) (at + 2)
-unfolding duration_at if◌then◌else◌
+unfolding duration_at when◌then◌else◌
 long_back s at one two h k st =
     let a = st.0 in
     let e = st.1 in
@@ -52,7 +52,7 @@ duration_back s at value m st =
     ]
 
 gate_back : (s : List ℕ) (at gate : ℕ) → IsGate gate → Stands s at (duration_bytes gate) → gate_at s at ≡ duration.Is gate (at + length (duration_bytes gate))
-unfolding gate_at not_zero if◌then◌else◌
+unfolding gate_at not_zero when◌then◌else◌
 gate_back s at gate g st =
     let d = duration_back s at gate g.short st in
     let z : gate ≡ 0 → ⊥ = omega arith in
@@ -76,7 +76,7 @@ note_top low h = leb-true low 12 (and_right (1 ≤? low) _ h)
 
 note_back : (s : List ℕ) (at channel key gate : ℕ) → IsNote channel key gate → Stands s at ((channel * 64 + key) ∷ duration_bytes gate)
     → event_at Score s at ≡ event.Is (Note channel key gate) (at + length ((channel * 64 + key) ∷ duration_bytes gate))
-unfolding event_at sound_at is_sound sound gated if◌then◌else◌
+unfolding event_at sound_at is_sound sound gated when◌then◌else◌
 note_back s at channel key gate n st =
     let h = st.0 in
     let e = st.1 in
@@ -93,7 +93,7 @@ note_back s at channel key gate n st =
 
 wave_back : (s : List ℕ) (at channel number gate : ℕ) → IsWave channel number gate → Stands s at ((channel * 64 + number) ∷ duration_bytes gate)
     → event_at Pcm s at ≡ event.Is (Wave channel number gate) (at + length ((channel * 64 + number) ∷ duration_bytes gate))
-unfolding event_at sound_at is_sound is_wave sound gated if◌then◌else◌ ◌and◌
+unfolding event_at sound_at is_sound is_wave sound gated when◌then◌else◌ ◌and◌
 wave_back s at channel number gate n st =
     let h = st.0 in
     let e = st.1 in
@@ -108,7 +108,7 @@ wave_back s at channel number gate n st =
     simp (lt-leb, e, ne_eqb, le-leb, g, c, k) (ap (event.Is (Wave channel number gate)) x)
 
 nop_back : (voice : Voice) (s : List ℕ) (at : ℕ) → Stands s at (0xFF ∷ 0x00 ∷ []) → event_at voice s at ≡ event.Is Nop (at + 2)
-unfolding event_at system_at if◌then◌else◌
+unfolding event_at system_at when◌then◌else◌
 nop_back voice s at st =
     let h = st.0 in
     let e = st.1 in
@@ -119,7 +119,7 @@ nop_back voice s at st =
 -- controls of form 3, and of the other forms
 control_long_back : (voice : Voice) (s : List ℕ) (at kind channel value : ℕ) → kind < 11 → IsControl voice kind channel value
     → Stands s at (0x00 ∷ (channel * 64 + 3 * 16 + code_of kind) ∷ value ∷ []) → event_at voice s at ≡ event.Is (Control kind channel value) (at + 3)
-unfolding event_at control_at formed long_at if◌then◌else◌
+unfolding event_at control_at formed long_at when◌then◌else◌
 control_long_back voice s at kind channel value l n st =
     let h = st.0 in
     let e = st.1 in
@@ -139,7 +139,7 @@ control_long_back voice s at kind channel value l n st =
 
 control_short_back : (voice : Voice) (s : List ℕ) (at kind channel value : ℕ) → 11 ≤ kind → IsControl voice kind channel value
     → Stands s at (0x00 ∷ (channel * 64 + (13 - kind) * 16 + value) ∷ []) → event_at voice s at ≡ event.Is (Control kind channel value) (at + 2)
-unfolding event_at control_at formed short_at if◌then◌else◌
+unfolding event_at control_at formed short_at when◌then◌else◌
 control_short_back voice s at kind channel value l n st =
     let h = st.0 in
     let e = st.1 in
@@ -169,7 +169,7 @@ control_back voice s at kind channel value n st =
 -- an exclusive: its last byte closes it
 exclusive_back : (voice : Voice) (s : List ℕ) (at : ℕ) (bytes : List ℕ) → 3 ≤ length bytes → bytes ! (length bytes - 1) ≡ 0xF7
     → Stands s at (0xFF ∷ 0xF0 ∷ length bytes ∷ bytes) → event_at voice s at ≡ event.Is (Exclusive at (length bytes)) (at + suc (suc (suc (length bytes))))
-unfolding event_at system_at exclusive_at closed_at if◌then◌else◌
+unfolding event_at system_at exclusive_at closed_at when◌then◌else◌
 exclusive_back voice s at bytes many last st =
     let h = st.0 in
     let e = st.1 in

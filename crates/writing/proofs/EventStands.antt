@@ -7,7 +7,7 @@ use mathlib.Core.Path.{◌≡◌, refl, sym, ◌∙◌}
 use lib.ListN.{length}
 use native.Mathlib.Omega.{arith}
 use borrow.Author.Tests.{le-ltb, le-leb, ltb-true, ltb-false, leb-false, eqb-true, eqb-false, not-false}
-use Rattle.model.specs.Words.{if◌then◌else◌, ◌and◌, ◌<?◌, ◌≤?◌, ◌≡?◌}
+use Rattle.model.specs.Words.{when◌then◌else◌, ◌and◌, ◌<?◌, ◌≤?◌, ◌≡?◌}
 use Rattle.model.specs.Bytes.{◌!◌}
 use Rattle.model.specs.Duration.{two_byte_value, duration_at, not_zero, gate_at, duration_bytes}
 use Rattle.model.specs.Event.{is_note, is_wave, is_sound, sound, gated, sound_at, long_kind, short_kind, has_kind, is_value, long_at, short_at, formed, control_at, closed_at, exclusive_at, system_at, event_at}
@@ -112,7 +112,7 @@ module _ (s : List ℕ) (bytes : (k : ℕ) → s ! k < 256) where
   module _ (voice : Voice) (at : ℕ) (here : at < length s) (zero-here : s ! at ≡ 0x00) (next_here : at + 1 < length s) where
     long_control : (kind : ℕ) → kind ≡ long_kind (s ! (at + 1) % 16) → s ! (at + 1) / 16 % 4 ≡ 3 → (kind ≡ 0 → ⊥) → has_kind voice kind ≡ true
         → at + 2 < length s → is_value kind (s ! (at + 2)) ≡ true → EventStands voice s at (event.Is (Control kind (s ! (at + 1) / 64) (s ! (at + 2))) (at + 3))
-    unfolding content_of content_fits content_bytes control_fits value_fits if◌then◌else◌ ◌and◌
+    unfolding content_of content_fits content_bytes control_fits value_fits when◌then◌else◌ ◌and◌
     long_control kind is form some has there ok =
         let b = bytes (at + 1) in
         let v = bytes (at + 2) in
@@ -134,7 +134,7 @@ module _ (s : List ℕ) (bytes : (k : ℕ) → s ! k < 256) where
     short_control : (kind : ℕ) → kind ≡ 13 - s ! (at + 1) / 16 % 4 → (s ! (at + 1) / 16 % 4 ≡ 3 → ⊥) → has_kind voice kind ≡ true
         → (s ! (at + 1) % 16 ≡ 0 → ⊥) → (s ! (at + 1) % 16 ≡ 15 → ⊥)
         → EventStands voice s at (event.Is (Control kind (s ! (at + 1) / 64) (s ! (at + 1) % 16)) (at + 2))
-    unfolding content_of content_fits content_bytes control_fits value_fits if◌then◌else◌ ◌and◌
+    unfolding content_of content_fits content_bytes control_fits value_fits when◌then◌else◌ ◌and◌
     short_control kind is form has some less =
         let b = bytes (at + 1) in
         let from : 3 ≤ kind = omega arith in

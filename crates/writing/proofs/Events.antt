@@ -9,7 +9,7 @@ use mir.Syntax.{w8}
 use native.Mathlib.Numerals.{towards_suc}
 use native.Mathlib.Omega.{arith}
 use borrow.Author.Tests.{le-ltb, lt-ltb}
-use Rattle.model.specs.Words.{if◌then◌else◌}
+use Rattle.model.specs.Words.{when◌then◌else◌}
 use Rattle.model.specs.Bytes.{part}
 use Rattle.model.specs.Duration.{duration_bytes}
 use Rattle.model.specs.Content.{code_of, control_bytes}
@@ -41,11 +41,11 @@ pub ruleset sounds = (kept_set, sound_room, gate_room, sound_next, sound_wrote)
 
 -- a control of three bytes, and one of two
 pub control_long : (kind channel value : ℕ) → kind < 11 → control_bytes kind channel value ≡ 0x00 ∷ (channel * 64 + 3 * 16 + code_of kind) ∷ value ∷ []
-unfolding control_bytes if◌then◌else◌
+unfolding control_bytes when◌then◌else◌
 control_long kind channel value h = simp lt-ltb
 
 pub control_short : (kind channel value : ℕ) → 11 ≤ kind → control_bytes kind channel value ≡ 0x00 ∷ (channel * 64 + (13 - kind) * 16 + value) ∷ []
-unfolding control_bytes if◌then◌else◌
+unfolding control_bytes when◌then◌else◌
 control_short kind channel value h = simp le-ltb
 
 module _ (l : List ℕ) (at kind channel value : ℕ) where
@@ -126,11 +126,11 @@ module _ (event : Event) where
   size_wave channel number gate r p h = rw (p, h)
 
   pub size_long : (kind channel value : ℕ) → event ≡ Control kind channel value → kind < 11 → 3 ≡ event_size event
-  unfolding event_size if◌then◌else◌
+  unfolding event_size when◌then◌else◌
   size_long kind channel value p h = rw p (simp lt-ltb)
 
   pub size_short : (kind channel value : ℕ) → event ≡ Control kind channel value → 11 ≤ kind → 2 ≡ event_size event
-  unfolding event_size if◌then◌else◌
+  unfolding event_size when◌then◌else◌
   size_short kind channel value p h = rw p (simp le-ltb)
 
   pub size_exclusive : (place size : ℕ) → event ≡ Exclusive place size → 3 + size ≡ event_size event

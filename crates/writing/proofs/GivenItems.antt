@@ -8,7 +8,7 @@ use lib.ListN.{length}
 use lib.Seq.{sets}
 use native.Mathlib.Omega.{arith}
 use borrow.Author.Tests.{ne_eqb, eqb-true, eqb-false, le-leb, le-ltb, lt-ltb, ltb-false, leb-true}
-use Rattle.model.specs.Words.{if◌then◌else◌, ◌and◌, ◌or◌, ◌<?◌, ◌≤?◌, ◌≡?◌, Checked, Checked.fine, Checked.refused, passed, ◌>>◌}
+use Rattle.model.specs.Words.{when◌then◌else◌, ◌and◌, ◌or◌, ◌<?◌, ◌≤?◌, ◌≡?◌, Checked, Checked.fine, Checked.refused, passed, ◌>>◌}
 use Rattle.model.specs.Duration.{duration_bytes}
 use Rattle.model.specs.Event.{is_note, is_wave, has_kind}
 use Rattle.model.specs.Item.{Item, Item.timed, Item.end_mark, is_fine}
@@ -29,12 +29,12 @@ use Rattle.writing.proofs.WordCases.{in_note, in_wave, in_exclusive, in_nothing,
 -- FAULTS, as the code finds them
 
 module _ {A : Type 0} (z : ℕ) where
-  pub fault_yes : (b : Bool) (x y : Checked A) → b ≡ true → z ≡ fault_in x → z ≡ fault_in (if b then x else y)
-  unfolding if◌then◌else◌
+  pub fault_yes : (b : Bool) (x y : Checked A) → b ≡ true → z ≡ fault_in x → z ≡ fault_in (when b then x else y)
+  unfolding when◌then◌else◌
   fault_yes b x y h e = rw h e
 
-  pub fault_no : (b : Bool) (x y : Checked A) → b ≡ false → z ≡ fault_in y → z ≡ fault_in (if b then x else y)
-  unfolding if◌then◌else◌
+  pub fault_no : (b : Bool) (x y : Checked A) → b ≡ false → z ≡ fault_in y → z ≡ fault_in (when b then x else y)
+  unfolding when◌then◌else◌
   fault_no b x y h e = rw h e
 
 pub ruleset tested_faults = (fault_yes, fault_no)
@@ -55,12 +55,12 @@ module _ (source : List ℕ) (event : Event) (z : ℕ) where
   fault_wave channel number gate p allowed a h = rw (p, ← a) h
 
   pub fault_control : (kind channel value : ℕ) → event ≡ Control kind channel value → (fits : Bool) → fits ≡ value_fits kind value
-      → z ≡ fault_in (if fits then passed else refused 23 0) → z ≡ fault_in (event_given source event)
+      → z ≡ fault_in (when fits then passed else refused 23 0) → z ≡ fault_in (event_given source event)
   unfolding event_given
   fault_control kind channel value p fits a h = rw (p, ← a) h
 
   pub fault_exclusive : (place size : ℕ) → event ≡ Exclusive place size → (fits : Bool) → fits ≡ exclusive_fits source place size
-      → z ≡ fault_in (if fits then passed else refused 23 0) → z ≡ fault_in (event_given source event)
+      → z ≡ fault_in (when fits then passed else refused 23 0) → z ≡ fault_in (event_given source event)
   unfolding event_given
   fault_exclusive place size p fits a h = rw (p, ← a) h
 
@@ -71,10 +71,10 @@ abbrev pub Numbered : {A : Type 0} → Checked A → Type 0
 Numbered (fine a) = Unit
 Numbered (refused number place) = 0 < number
 
-fits_numbered : {A : Type 0} (b : Bool) (a : A) → Numbered (if b then fine a else refused 23 0)
+fits_numbered : {A : Type 0} (b : Bool) (a : A) → Numbered (when b then fine a else refused 23 0)
 fits_numbered b a = if_all Numbered b _ _ (λ h. tt) (λ h. omega arith)
 
-fault_numbered : {A : Type 0} (b : Bool) (n : ℕ) (o : Checked A) → 0 < n → Numbered o → Numbered (if b then refused n 0 else o)
+fault_numbered : {A : Type 0} (b : Bool) (n : ℕ) (o : Checked A) → 0 < n → Numbered o → Numbered (when b then refused n 0 else o)
 fault_numbered b n o some rest = if_all Numbered b _ _ (λ h. some) (λ h. rest)
 
 pub then_numbered : {A B : Type 0} (o : Checked A) (rest : Checked B) → Numbered o → Numbered rest → Numbered (o >> rest)
@@ -106,9 +106,9 @@ item_numbered voice source duration word =
     (if_all Numbered _ _ _ (λ h. word_numbered source duration word) (λ h. fits_numbered _ _)))
 
 -- what fits has no fault, whatever it is
-pub fits_fault : {A : Type 0} (fits same : Bool) (a : A) (z : ℕ) → fits ≡ same → z ≡ fault_in (if fits then passed else refused 23 0)
-    → z ≡ fault_in (if same then fine a else refused 23 0)
-unfolding if◌then◌else◌ fault_in
+pub fits_fault : {A : Type 0} (fits same : Bool) (a : A) (z : ℕ) → fits ≡ same → z ≡ fault_in (when fits then passed else refused 23 0)
+    → z ≡ fault_in (when same then fine a else refused 23 0)
+unfolding when◌then◌else◌ fault_in
 fits_fault true true a z e q = q
 fits_fault true false a z e q = absurd (false≢true (sym e))
 fits_fault false true a z e q = absurd (false≢true e)
@@ -131,7 +131,7 @@ module _ (source : List ℕ) (duration word : ℕ) (event : Event) (said : event
   unfolding word_given
   word_faulty h = then_fault _ (event_given source (event_in word)) fault (is ∙ ap (λ e. fault_in (event_given source e)) said) h
 
-  pub word_exact : (exact : Bool) (z : ℕ) → fault ≡ 0 → exact ≡ (event_word (event_in word) ≡? word) → z ≡ fault_in (if exact then passed else refused 23 0)
+  pub word_exact : (exact : Bool) (z : ℕ) → fault ≡ 0 → exact ≡ (event_word (event_in word) ≡? word) → z ≡ fault_in (when exact then passed else refused 23 0)
       → z ≡ fault_in (word_given source duration word)
   unfolding word_given
   word_exact exact z h e q =
@@ -143,17 +143,17 @@ pub ruleset word_faults = (word_faulty, word_exact)
 -- the whole item
 module _ (voice : Voice) (source : List ℕ) (duration word : ℕ) where
   pub item_long : 16511 < duration → 23 ≡ fault_in (item_given voice source duration word)
-  unfolding item_given if◌then◌else◌ ◌or◌ ◌>>◌ fault_in
+  unfolding item_given when◌then◌else◌ ◌or◌ ◌>>◌ fault_in
   item_long h = simp lt-ltb
 
   module _ (short : duration ≤ 16511) where
     pub mark_lasts : kind_in word ≡ 16 → (duration ≡ 0 → ⊥) → 23 ≡ fault_in (item_given voice source duration word)
-    unfolding item_given if◌then◌else◌ ◌or◌ ◌and◌ ◌>>◌ fault_in
+    unfolding item_given when◌then◌else◌ ◌or◌ ◌and◌ ◌>>◌ fault_in
     mark_lasts k h = simp (le-ltb, k, ne_eqb)
 
-    pub mark_exact : (z : ℕ) → kind_in word ≡ 16 → duration ≡ 0 → z ≡ fault_in (if word ≡? mark_word then passed else refused 23 0)
+    pub mark_exact : (z : ℕ) → kind_in word ≡ 16 → duration ≡ 0 → z ≡ fault_in (when word ≡? mark_word then passed else refused 23 0)
         → z ≡ fault_in (item_given voice source duration word)
-    unfolding item_given if◌then◌else◌ ◌or◌ ◌and◌ ◌>>◌ is_kind
+    unfolding item_given when◌then◌else◌ ◌or◌ ◌and◌ ◌>>◌ is_kind
     mark_exact z k h q = go voice
       where
         go : (v : Voice) → z ≡ fault_in (item_given v source duration word)
@@ -162,11 +162,11 @@ module _ (voice : Voice) (source : List ℕ) (duration word : ℕ) where
 
     module _ (other : kind_in word ≡ 16 → ⊥) (known : Bool) (is : known ≡ is_kind voice (kind_in word)) where
       pub item_kind : not known ≡ true → 22 ≡ fault_in (item_given voice source duration word)
-      unfolding item_given if◌then◌else◌ ◌or◌ ◌and◌ ◌>>◌ fault_in
+      unfolding item_given when◌then◌else◌ ◌or◌ ◌and◌ ◌>>◌ fault_in
       item_kind h = let off = flag_off is h in simp (le-ltb, ne_eqb, off)
 
       pub item_word : (z : ℕ) → not known ≡ false → z ≡ fault_in (word_given source duration word) → z ≡ fault_in (item_given voice source duration word)
-      unfolding item_given if◌then◌else◌ ◌or◌ ◌and◌ ◌>>◌
+      unfolding item_given when◌then◌else◌ ◌or◌ ◌and◌ ◌>>◌
       item_word z h q = let on = flag_on is h in simp (le-ltb, ne_eqb, on) q
 
 pub ruleset item_faults = (item_long, mark_lasts, mark_exact, item_kind, item_word)
@@ -187,14 +187,14 @@ pub record GivenEvent (voice : Voice) (source : List ℕ) (duration word : ℕ) 
   pub is : item ≡ timed duration (content_of source (event_in word))
 
 -- a test that gives something or refuses
-given_if : {A : Type 0} (b : Bool) (a x : A) (number place : ℕ) → (if b then fine a else refused number place) ≡ fine x → (b ≡ true) × (x ≡ a)
-unfolding if◌then◌else◌
+given_if : {A : Type 0} (b : Bool) (a x : A) (number place : ℕ) → (when b then fine a else refused number place) ≡ fine x → (b ≡ true) × (x ≡ a)
+unfolding when◌then◌else◌
 given_if true a x number place e = (refl, cc)
 given_if false a x number place e = let z : ◌≡◌ {A = ℕ} 0 1 = cc in absurd (omega arith)
 
 -- a sound, a value or an exclusive that is given can be written
-past_fine : {A : Type 0} (b : Bool) (number place : ℕ) (o : Checked A) → is_fine (if b then refused number place else o) ≡ true → is_fine o ≡ true
-unfolding if◌then◌else◌ is_fine
+past_fine : {A : Type 0} (b : Bool) (number place : ℕ) (o : Checked A) → is_fine (when b then refused number place else o) ≡ true → is_fine o ≡ true
+unfolding when◌then◌else◌ is_fine
 past_fine true number place o e = absurd (false≢true e)
 past_fine false number place o e = e
 
@@ -276,10 +276,10 @@ event_fits_lem voice source word other known h =
 
 module _ (voice : Voice) (source : List ℕ) (duration word : ℕ) (item : Item Content) where
   abbrev rest : Checked (Item Content)
-  rest = if not (kind_in word ≡? 16) then word_given source duration word else if word ≡? mark_word then fine end_mark else refused 23 0
+  rest = when not (kind_in word ≡? 16) then word_given source duration word else when word ≡? mark_word then fine end_mark else refused 23 0
 
   given_mark : (kind_in word ≡? 16) ≡ true → ((kind_in word ≡? 16) and not (duration ≡? 0)) ≡ false → rest ≡ fine item → GivenMark duration word item
-  unfolding if◌then◌else◌ ◌and◌
+  unfolding when◌then◌else◌ ◌and◌
   given_mark k timeless e =
       let zero_test = simp k at timeless in
       let g = given_if (word ≡? mark_word) end_mark item 23 0 (simp k at e) in
@@ -291,7 +291,7 @@ module _ (voice : Voice) (source : List ℕ) (duration word : ℕ) (item : Item 
       }
 
   given_event : duration ≤ 16511 → (kind_in word ≡? 16) ≡ false → is_kind voice (kind_in word) ≡ true → rest ≡ fine item → GivenEvent voice source duration word item
-  unfolding if◌then◌else◌ word_given
+  unfolding when◌then◌else◌ word_given
   given_event short k known e =
       let a = then_fine _ _ item (simp k at e) in
       let g = given_if (event_word (event_in word) ≡? word) _ item 23 0 a.1 in
@@ -315,12 +315,12 @@ given_so voice source duration word item e =
 
 module _ (duration word : ℕ) where
   pub size_mark : kind_in word ≡ 16 → 4 ≡ given_size duration word
-  unfolding given_size if◌then◌else◌
+  unfolding given_size when◌then◌else◌
   size_mark k = simp k
 
   pub size_event : (kind_in word ≡ 16 → ⊥) → (event : Event) → event ≡ event_in word → (size : ℕ) → size ≡ length (duration_bytes duration) + event_size event
       → size ≡ given_size duration word
-  unfolding given_size if◌then◌else◌
+  unfolding given_size when◌then◌else◌
   size_event other event is size e = rw (← is) (simp ne_eqb e)
 
 pub ruleset given_sizes = (size_mark, size_event)
@@ -380,7 +380,7 @@ module _ (voice : Voice) (source : List ℕ) (duration word : ℕ) (there : is_f
     given_first l at h = first_room source duration (event_in word) l at (given_room (event_in word) refl l at h)
 
   pub given_length : length (given_bytes (item_given voice source duration word)) ≡ given_size duration word
-  unfolding given_size if◌then◌else◌
+  unfolding given_size when◌then◌else◌
   given_length =
       elim so [
         | inl m ↦ let k = m.kind in ap length (mark_bytes k) ∙ simp k

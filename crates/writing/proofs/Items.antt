@@ -7,7 +7,7 @@ use lib.ListN.{length, length-append}
 use lib.Seq.{sets}
 use native.Mathlib.Omega.{arith}
 use borrow.Author.Tests.{le-ltb, le-leb, lt-leb}
-use Rattle.model.specs.Words.{if◌then◌else◌}
+use Rattle.model.specs.Words.{when◌then◌else◌}
 use Rattle.model.specs.Duration.{duration_bytes}
 use Rattle.model.specs.Plain.{item_bytes}
 use Rattle.model.specs.Content.{content_of, content_bytes}
@@ -66,12 +66,12 @@ module _ (l : List ℕ) (at : ℕ) (bytes : List ℕ) (answer : Put) where
 -- the answers, from the tests that lead to each: `size` is what the code found, `fit` what it found of the event
 module _ (voice : Voice) (s : List ℕ) (duration : ℕ) (event : Event) (l : List ℕ) (at : ℕ) where
   pub too_long : 16511 < duration → Unfit ≡ put_answer voice s duration event (length l) at
-  unfolding put_answer if◌then◌else◌
+  unfolding put_answer when◌then◌else◌
   too_long h = simp lt-leb
 
   module _ (lasts : duration ≤ 16511) (fit : Bool) (same : fit ≡ event_fits voice s event) where
     pub no_event : not fit ≡ true → Unfit ≡ put_answer voice s duration event (length l) at
-    unfolding put_answer if◌then◌else◌
+    unfolding put_answer when◌then◌else◌
     no_event h = let e = flag_off same h in simp (le-leb, e)
 
     module _ (holds : not fit ≡ false) where
@@ -79,7 +79,7 @@ module _ (voice : Voice) (s : List ℕ) (duration : ℕ) (event : Event) (l : Li
       fits = flag_on same holds
 
       pub past_end : length l < at → Full ≡ put_answer voice s duration event (length l) at
-      unfolding put_answer if◌then◌else◌
+      unfolding put_answer when◌then◌else◌
       past_end h = let e = fits in simp (le-leb, e)
 
       module _ (within : at ≤ length l) (size : ℕ) (sized : size ≡ length (duration_bytes duration) + event_size event) where
@@ -87,7 +87,7 @@ module _ (voice : Voice) (s : List ℕ) (duration : ℕ) (event : Event) (l : Li
         item_size = sized ∙ ap (λ (n : ℕ). length (duration_bytes duration) + n) (sym (event_length_lem voice s event fits)) ∙ sym (timed_length s duration event)
 
         pub no_room : length l - at < size → Full ≡ put_answer voice s duration event (length l) at
-        unfolding put_answer if◌then◌else◌
+        unfolding put_answer when◌then◌else◌
         no_room h = let e = fits in simp (le-leb, e, le-ltb, ← item_size)
 
         pub has_room : size ≤ length l - at → at + length (timed_bytes s duration event) ≤ length l
@@ -95,7 +95,7 @@ module _ (voice : Voice) (s : List ℕ) (duration : ℕ) (event : Event) (l : Li
 
         pub all_done : (next : ℕ) → size ≤ length l - at → next ≡ at + length (timed_bytes s duration event)
             → Done next ≡ put_answer voice s duration event (length l) at
-        unfolding put_answer if◌then◌else◌
+        unfolding put_answer when◌then◌else◌
         all_done next h p = let e = fits in simp (le-leb, e, le-ltb, ← item_size) (ap Done (p ∙ ap (λ (n : ℕ). at + n) (sym item_size)))
 
         pub all_written : (m : List ℕ) → size ≤ length l - at → m ≡ sets l at (timed_bytes s duration event) → m ≡ put_memory voice s duration event l at

@@ -8,7 +8,7 @@ use lib.ListN.{length}
 use native.Mathlib.Decide.{dec_lt}
 use native.Mathlib.Omega.{arith}
 use borrow.Author.Tests.{eq-eqb, ne_eqb, eqb-true, eqb-false, leb-true, le-ltb, lt-ltb}
-use Rattle.model.specs.Words.{if◌then◌else◌, ◌and◌, ◌or◌, ◌<?◌, ◌≤?◌, ◌≡?◌, Checked, Checked.fine, Checked.refused, passed, ◌>>◌}
+use Rattle.model.specs.Words.{when◌then◌else◌, ◌and◌, ◌or◌, ◌<?◌, ◌≤?◌, ◌≡?◌, Checked, Checked.fine, Checked.refused, passed, ◌>>◌}
 use Rattle.model.specs.Duration.{duration_bytes}
 use Rattle.model.specs.Event.{is_note, is_wave}
 use Rattle.model.specs.Item.{Item, is_fine}
@@ -28,32 +28,32 @@ use Rattle.writing.proofs.GivenItems.{Numbered, event_numbered, item_numbered, i
 module _ (word : ℕ) where
   pub sound_sized : (allowed : Bool) (n : ℕ) → not allowed ≡ false → word % 4 ≡ 0 → (gate_in word ≡ 0 → ⊥) → gate_in word ≤ 16511
       → n ≡ length (duration_bytes (gate_in word)) → 1 + n ≡ sound_length allowed word
-  unfolding sound_length if◌then◌else◌
+  unfolding sound_length when◌then◌else◌
   sound_sized allowed n a b c d e = simp (a, b, ne_eqb, le-ltb) (ap (λ (k : ℕ). 1 + k) e)
 
   module _ (fits : Bool) (exact : word % 0x20000 ≡ 0) (is : fits ≡ value_fits (kind_in word) (value_in word)) where
     pub control_unfit : not fits ≡ true → 0 ≡ control_length word
-    unfolding control_length if◌then◌else◌
+    unfolding control_length when◌then◌else◌
     control_unfit h = let off = flag_off is h in simp (exact, off)
 
     module _ (h : not fits ≡ false) where
       pub control_long : kind_in word < 11 → 3 ≡ control_length word
-      unfolding control_length if◌then◌else◌
+      unfolding control_length when◌then◌else◌
       control_long k = let on = flag_on is h in simp (exact, on, lt-ltb)
 
       pub control_brief : 11 ≤ kind_in word → 2 ≡ control_length word
-      unfolding control_length if◌then◌else◌
+      unfolding control_length when◌then◌else◌
       control_brief k = let on = flag_on is h in simp (exact, on, le-ltb)
 
 pub ruleset control_lengths = (control_unfit, control_long, control_brief)
 
 -- a length that two tests allow, in the order of the definition
 abbrev sized : Bool → Bool → ℕ → ℕ
-sized given exact size = if given and exact then size else 0
+sized given exact size = when given and exact then size else 0
 
 sound_is : (allowed : Bool) (word : ℕ)
     → sound_length allowed word ≡ sized (is_fine (sound_given allowed (gate_in word))) (word % 4 ≡? 0) (1 + length (duration_bytes (gate_in word)))
-unfolding sound_length sound_given is_fine if◌then◌else◌ ◌and◌
+unfolding sound_length sound_given is_fine when◌then◌else◌ ◌and◌
 sound_is allowed word =
     by_test (not allowed) (λ a. simp a)
     (λ a. by_test (word % 4 ≡? 0)
@@ -62,8 +62,8 @@ sound_is allowed word =
 
 control_is : (word : ℕ)
     → control_length word
-    ≡ sized (is_fine (if value_fits (kind_in word) (value_in word) then passed else refused 23 0)) (word % 0x20000 ≡? 0) (if kind_in word <? 11 then 3 else 2)
-unfolding control_length is_fine if◌then◌else◌ ◌and◌
+    ≡ sized (is_fine (when value_fits (kind_in word) (value_in word) then passed else refused 23 0)) (word % 0x20000 ≡? 0) (when kind_in word <? 11 then 3 else 2)
+unfolding control_length is_fine when◌then◌else◌ ◌and◌
 control_is word =
     by_test (word % 0x20000 ≡? 0)
     (λ b. by_test (value_fits (kind_in word) (value_in word)) (λ c. simp (b, c)) (λ c. simp (b, c)))
@@ -71,8 +71,8 @@ control_is word =
 
 exclusive_is : (source : List ℕ) (word : ℕ)
     → exclusive_length source word
-    ≡ sized (is_fine (if exclusive_fits source (place_in word) (size_in word) then passed else refused 23 0)) (word % 8 ≡? 0) (3 + size_in word)
-unfolding exclusive_length is_fine if◌then◌else◌ ◌and◌
+    ≡ sized (is_fine (when exclusive_fits source (place_in word) (size_in word) then passed else refused 23 0)) (word % 8 ≡? 0) (3 + size_in word)
+unfolding exclusive_length is_fine when◌then◌else◌ ◌and◌
 exclusive_is source word =
     by_test (word % 8 ≡? 0)
     (λ b. by_test (exclusive_fits source (place_in word) (size_in word)) (λ c. simp (b, c)) (λ c. simp (b, c)))
@@ -115,11 +115,11 @@ module _ (source : List ℕ) (word : ℕ) where
     nothing = in_nothing word (inr past) (λ e. omega arith) (λ e. omega arith)
 
   pub length_other : 14 ≤ kind_in word → (kind_in word ≡ 14 → ⊥) → (word ≡ 0x78000000 → ⊥) → 0 ≡ event_length source word
-  unfolding event_length event_given event_word is_fine if◌then◌else◌ ◌and◌
+  unfolding event_length event_given event_word is_fine when◌then◌else◌ ◌and◌
   length_other past exclusive h = let far : 14 < kind_in word = omega arith in rw (nothing far) (simp (ne_eqb 0x78000000 word (λ e. h (sym e))))
 
   pub length_nop : word ≡ 0x78000000 → 2 ≡ event_length source word
-  unfolding event_length event_given event_word event_size is_fine if◌then◌else◌ ◌and◌
+  unfolding event_length event_given event_word event_size is_fine when◌then◌else◌ ◌and◌
   length_nop h = let past : 14 < kind_in word = omega arith in rw (nothing past) (simp (eq-eqb 0x78000000 word (sym h)))
 
 pub ruleset event_lengths = (length_note, length_wave, length_control, length_exclusive, length_other, length_nop)
@@ -138,20 +138,20 @@ fault_free (refused number place) k e = absurd (omega arith)
 
 module _ (exact : Bool) (item : Item Content) where
   abbrev then_exact : Checked (Unit {0}) → Checked (Item Content)
-  then_exact o = o >> (if exact then fine item else refused 23 0)
+  then_exact o = o >> (when exact then fine item else refused 23 0)
 
   exact_free : (o : Checked (Unit {0})) → (is_fine o and exact) ≡ true → 0 ≡ fault_in (then_exact o)
-  unfolding fault_in is_fine ◌>>◌ ◌and◌ if◌then◌else◌
+  unfolding fault_in is_fine ◌>>◌ ◌and◌ when◌then◌else◌
   exact_free (fine a) h = simp h
   exact_free (refused number place) h = absurd (false≢true h)
 
   exact_faulty : (o : Checked (Unit {0})) → Numbered o → (is_fine o and exact) ≡ false → 0 < fault_in (then_exact o)
-  unfolding fault_in is_fine ◌>>◌ ◌and◌ if◌then◌else◌
+  unfolding fault_in is_fine ◌>>◌ ◌and◌ when◌then◌else◌
   exact_faulty (fine a) k h = simp h (omega arith)
   exact_faulty (refused number place) k h = k
 
 size_some : (event : Event) → 0 < event_size event
-unfolding event_size if◌then◌else◌
+unfolding event_size when◌then◌else◌
 size_some Nop = omega arith
 size_some (Note channel key gate) = omega arith
 size_some (Wave channel number gate) = omega arith
@@ -170,7 +170,7 @@ module _ (voice : Voice) (source : List ℕ) (duration word : ℕ) where
 
   module _ (short : duration ≤ 16511) where
     pub length_mark : word ≡ 0x80000000 → duration ≡ 0 → 4 ≡ length (given_bytes (item_given voice source duration word))
-    unfolding fault_in if◌then◌else◌
+    unfolding fault_in when◌then◌else◌
     length_mark w h =
         let k : kind_in word ≡ 16 = omega arith in
         let free = mark_exact voice source duration word short 0 k h (simp (eq-eqb word mark_word w)) in
@@ -181,7 +181,7 @@ module _ (voice : Voice) (source : List ℕ) (duration word : ℕ) where
 
     module _ (other : word ≡ 0x80000000 → ⊥) where
       stray_mark : kind_in word ≡ 16 → 0 ≡ length (given_bytes (item_given voice source duration word))
-      unfolding fault_in if◌then◌else◌
+      unfolding fault_in when◌then◌else◌
       stray_mark k =
           by_test (duration ≡? 0)
           (λ h. faulty 23 (mark_exact voice source duration word short 23 k (eqb-true duration 0 h) (simp (ne_eqb word mark_word other))) (λ e. omega arith))

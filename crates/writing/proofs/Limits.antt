@@ -3,17 +3,17 @@ use Prim.Native.Nat.{ℕ, ◌+◌, ◌<◌, ◌≤◌}
 use mathlib.Core.Path.{◌≡◌, sym, ◌∙◌}
 use native.Mathlib.Omega.{arith}
 use borrow.Author.Tests.{lt-ltb, ltb-true, ltb-false}
-use Rattle.model.specs.Words.{if◌then◌else◌, ◌<?◌}
+use Rattle.model.specs.Words.{when◌then◌else◌, ◌<?◌}
 use Rattle.model.proofs.Tests.{by_test, if_true, if_false}
 use Rattle.writing.specs.Parts.{limited}
 
 module _ (n : ℕ) where
   pub limited_small : n ≤ 65537 → limited n ≡ n
-  unfolding limited if◌then◌else◌
+  unfolding limited when◌then◌else◌
   limited_small h = by_test (65536 <? n) (λ k. let q = ltb-true 65536 n k in simp k (omega arith)) (λ k. simp k)
 
   pub limited_most : limited n ≤ 65537
-  unfolding limited if◌then◌else◌
+  unfolding limited when◌then◌else◌
   limited_most = by_test (65536 <? n) (λ k. simp k (omega arith)) (λ k. let q = ltb-false 65536 n k in simp k (omega arith))
 
   pub limited_adds : (more : ℕ) → limited (limited n + more) ≡ limited (n + more)
@@ -40,9 +40,9 @@ pub ruleset limits = (first_limited, second_limited)
 
 -- a limited size is over where the size is
 pub limited_over : (n limit : ℕ) → limit ≤ 65536 → limit < limited n → limit < n
-unfolding limited if◌then◌else◌
+unfolding limited when◌then◌else◌
 limited_over n limit h k = by_test (65536 <? n) (λ q. let over = ltb-true 65536 n q in omega arith) (λ q. simp q at k)
 
 pub limited_exact : (n : ℕ) → limited n ≤ 65536 → limited n ≡ n
-unfolding limited if◌then◌else◌
+unfolding limited when◌then◌else◌
 limited_exact n h = by_test (65536 <? n) (λ q. let k = simp q at h in absurd (omega arith)) (λ q. simp q)

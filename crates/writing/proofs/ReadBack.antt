@@ -7,7 +7,7 @@ use mathlib.Core.Path.{◌≡◌, ◌∙◌, ap}
 use lib.ListN.{length, length-append}
 use native.Mathlib.Omega.{arith}
 use borrow.Author.Tests.{le-leb, leb-true}
-use Rattle.model.specs.Words.{if◌then◌else◌, ◌and◌, ◌≤?◌}
+use Rattle.model.specs.Words.{when◌then◌else◌, ◌and◌, ◌≤?◌}
 use Rattle.model.specs.Bytes.{◌!◌}
 use Rattle.model.specs.Duration.{duration_bytes}
 use Rattle.model.specs.Item.{is_end_mark, with_event, with_duration, item_at, Item, Item.timed, Item.end_mark}
@@ -52,7 +52,7 @@ timed_back voice s at value content h st =
     }
 
 mark_back : (voice : Voice) (s : List ℕ) (at : ℕ) → Stands s at (0 ∷ 0 ∷ 0 ∷ 0 ∷ []) → item_at voice s at ≡ item.EndMark (at + 4)
-unfolding item_at is_end_mark if◌then◌else◌ ◌and◌
+unfolding item_at is_end_mark when◌then◌else◌ ◌and◌
 mark_back voice s at st =
     let e = st.1 in
     let e1 = st.2.1 in

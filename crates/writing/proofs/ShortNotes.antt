@@ -8,7 +8,7 @@ use lib.Seq.{sets}
 use native.Mathlib.Numerals.{towards_suc}
 use native.Mathlib.Omega.{arith}
 use borrow.Author.Tests.{eqb-true, leb-true, le-ltb}
-use Rattle.model.specs.Words.{if◌then◌else◌, ◌and◌, ◌≤?◌, ◌≡?◌}
+use Rattle.model.specs.Words.{when◌then◌else◌, ◌and◌, ◌≤?◌, ◌≡?◌}
 use Rattle.model.specs.Event.{is_note}
 use Rattle.model.specs.Item.{is_fine}
 use Rattle.model.specs.Plain.{item_bytes}
@@ -113,7 +113,7 @@ module _ (source : List ℕ) (duration word : ℕ) (short : is_short_note durati
   allowed = (value_in word ≤? 63) and is_note (value_in word % 16)
 
   score_length : 3 ≡ length (given_bytes (item_given Score source duration word))
-  unfolding is_short_note is_kind sound_length if◌then◌else◌ ◌and◌
+  unfolding is_short_note is_kind sound_length when◌then◌else◌ ◌and◌
   score_length =
       let brief = leb-true duration 127 (and_left _ _ short) in
       let from_kind = and_right (duration ≤? 127) _ short in

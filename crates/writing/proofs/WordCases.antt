@@ -5,7 +5,7 @@ use mathlib.Core.Logic.{◌⊎◌, inl, inr}
 use mathlib.Core.Path.{◌≡◌, refl, sym, ◌∙◌}
 use native.Mathlib.Omega.{arith}
 use borrow.Author.Tests.{eq-eqb, ne_eqb, eqb-true, eqb-false, le-leb, lt-leb}
-use Rattle.model.specs.Words.{if◌then◌else◌, ◌and◌, ◌or◌, ◌≤?◌, ◌≡?◌}
+use Rattle.model.specs.Words.{when◌then◌else◌, ◌and◌, ◌or◌, ◌≤?◌, ◌≡?◌}
 use Rattle.model.specs.Word.{packed, packed_exclusive, word_of}
 use Rattle.model.specs.Writing.{kind_in, channel_in, value_in, gate_in, place_in, size_in, event_in, event_word, is_kind}
 use Rattle.model.specs.declared.Voice.{Voice}
@@ -15,19 +15,19 @@ use Rattle.model.proofs.Tests.{by_test}
 
 module _ (word : ℕ) where
   pub in_note : kind_in word ≡ 1 → event_in word ≡ Note (channel_in word) (value_in word) (gate_in word)
-  unfolding event_in if◌then◌else◌
+  unfolding event_in when◌then◌else◌
   in_note k = simp k
 
   pub in_wave : kind_in word ≡ 2 → event_in word ≡ Wave (channel_in word) (value_in word) (gate_in word)
-  unfolding event_in if◌then◌else◌
+  unfolding event_in when◌then◌else◌
   in_wave k = simp k
 
   pub in_exclusive : kind_in word ≡ 14 → event_in word ≡ Exclusive (place_in word) (size_in word)
-  unfolding event_in if◌then◌else◌
+  unfolding event_in when◌then◌else◌
   in_exclusive k = simp k
 
   pub in_nothing : (kind_in word < 3) ⊎ (14 < kind_in word) → (kind_in word ≡ 1 → ⊥) → (kind_in word ≡ 2 → ⊥) → event_in word ≡ Nop
-  unfolding event_in if◌then◌else◌ ◌and◌
+  unfolding event_in when◌then◌else◌ ◌and◌
   in_nothing (inl low) a b = let c : kind_in word ≡ 14 → ⊥ = λ e. omega arith in simp (ne_eqb, lt-leb)
   in_nothing (inr high) a b =
       let c : kind_in word ≡ 14 → ⊥ = λ e. omega arith in
@@ -36,7 +36,7 @@ module _ (word : ℕ) where
       simp (ne_eqb, le-leb, lt-leb)
 
   pub in_control : 3 ≤ kind_in word → kind_in word ≤ 13 → event_in word ≡ Control (kind_in word) (channel_in word) (value_in word)
-  unfolding event_in if◌then◌else◌ ◌and◌
+  unfolding event_in when◌then◌else◌ ◌and◌
   in_control from to =
       let a : kind_in word ≡ 1 → ⊥ = λ e. omega arith in
       let b : kind_in word ≡ 2 → ⊥ = λ e. omega arith in

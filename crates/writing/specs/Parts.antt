@@ -1,7 +1,7 @@
 -- What the writers of an event ask of its numbers, the bytes of each kind of event, and how many bytes an event takes; the same of a
 -- list of items that are given.
 use Rattle.std.specs.Prelude.{ℕ, ◌+◌, ◌-◌, ◌*◌, ◌/◌, ◌%◌, ◌≤◌, ◌<◌, List, [], ◌∷◌, Bool, false, not, ◌≡◌, length, drop}
-use Rattle.model.specs.Words.{if◌then◌else◌, ◌and◌, ◌<?◌, ◌≤?◌, ◌≡?◌, Checked, Checked.fine, Checked.refused}
+use Rattle.model.specs.Words.{when◌then◌else◌, ◌and◌, ◌<?◌, ◌≤?◌, ◌≡?◌, Checked, Checked.fine, Checked.refused}
 use Rattle.model.specs.Bytes.{part}
 use Rattle.model.specs.Duration.{longest_duration, duration_bytes}
 use Rattle.model.specs.Event.{is_note}
@@ -38,12 +38,12 @@ unfoldable pub event_size : Event → ℕ
 event_size Nop = 2
 event_size (Note channel key gate) = 1 + length (duration_bytes gate)
 event_size (Wave channel number gate) = 1 + length (duration_bytes gate)
-event_size (Control kind channel value) = if kind <? 11 then 3 else 2
+event_size (Control kind channel value) = when kind <? 11 then 3 else 2
 event_size (Exclusive place size) = 3 + size
 
 -- more than 65,536 is as much as 65,537
 unfoldable pub limited : ℕ → ℕ
-limited n = if 65536 <? n then 65537 else n
+limited n = when 65536 <? n then 65537 else n
 
 -- GIVEN ITEMS: the number of the refusal, 0 for none; the bytes of an item and of a list, none where there is a refusal; how many bytes a duration and a word
 -- take that are no fault
@@ -53,7 +53,7 @@ fault_in (fine a) = 0
 fault_in (refused number place) = number
 
 unfoldable pub given_size : ℕ → ℕ → ℕ
-given_size duration word = if kind_in word ≡? 16 then 4 else length (duration_bytes duration) + event_size (event_in word)
+given_size duration word = when kind_in word ≡? 16 then 4 else length (duration_bytes duration) + event_size (event_in word)
 
 unfoldable pub given_bytes : Checked (Item Content) → List ℕ
 given_bytes (fine item) = item_bytes handy_phone item
@@ -90,27 +90,27 @@ pub record ShortNote (duration word : ℕ) : Type 0 where
 
 unfoldable pub event_length : List ℕ → ℕ → ℕ
 event_length source word =
-    if is_fine (event_given source (event_in word)) and (event_word (event_in word) ≡? word) then event_size (event_in word) else 0
+    when is_fine (event_given source (event_in word)) and (event_word (event_in word) ≡? word) then event_size (event_in word) else 0
 
 unfoldable pub sound_length : Bool → ℕ → ℕ
 sound_length allowed word =
-    if not allowed then 0 else
-    if not (word % 4 ≡? 0) then 0 else
-    if gate_in word ≡? 0 then 0 else
-    if longest_duration <? gate_in word then 0 else
+    when not allowed then 0 else
+    when not (word % 4 ≡? 0) then 0 else
+    when gate_in word ≡? 0 then 0 else
+    when longest_duration <? gate_in word then 0 else
     1 + length (duration_bytes (gate_in word))
 
 unfoldable pub control_length : ℕ → ℕ
 control_length word =
-    if not (word % 0x20000 ≡? 0) then 0 else
-    if not (value_fits (kind_in word) (value_in word)) then 0 else
-    if kind_in word <? 11 then 3 else
+    when not (word % 0x20000 ≡? 0) then 0 else
+    when not (value_fits (kind_in word) (value_in word)) then 0 else
+    when kind_in word <? 11 then 3 else
     2
 
 unfoldable pub exclusive_length : List ℕ → ℕ → ℕ
 exclusive_length source word =
-    if not (word % 8 ≡? 0) then 0 else
-    if exclusive_fits source (place_in word) (size_in word) then 3 + size_in word else
+    when not (word % 8 ≡? 0) then 0 else
+    when exclusive_fits source (place_in word) (size_in word) then 3 + size_in word else
     0
 
 -- A LIST, checked and measured

@@ -1,7 +1,7 @@
 // One item that is given as a duration and a word: what is wrong with it, how many bytes it takes, and its bytes at a place of lent memory.
 ghost use Rattle.std.specs.Prelude.{◌≡◌, true, [], ◌∷◌, ◌+◌, ◌%◌, ◌≤◌, length};
 ghost use Rattle.std.proofs.lemmas.List.Edits.{sets};
-ghost use Rattle.model.specs.Words.{if◌then◌else◌, ◌and◌, ◌≤?◌, Checked.refused, passed};
+ghost use Rattle.model.specs.Words.{when◌then◌else◌, ◌and◌, ◌≤?◌, Checked.refused, passed};
 ghost use Rattle.model.specs.Event.{is_note};
 ghost use Rattle.model.specs.Item.{is_fine};
 ghost use Rattle.model.specs.Writing.{sound_given, event_given, word_given, item_given};
@@ -43,7 +43,7 @@ pub fn is_key(key: u8) -> bool
 
 // 0, or 23 for what does not fit.
 fn unless_fits(fits: bool) -> u32
-    ensures { result ≡ fault_in (if fits then passed else refused 23 0) }
+    ensures { result ≡ fault_in (when fits then passed else refused 23 0) }
 {
     if fits {
         return 0;
