@@ -164,17 +164,22 @@ def proved_functions(said):
 
 def failing_facts(said):
     """The functions in which a fact does not hold, each with the first line that says so, and the lemmas; not those whose proof only does not fit, or
-    that only rest on something that was not proved. Goals that a proof says nothing of are told before the line of their function."""
-    found, open_goal = {}, None
+    that only rest on something that was not proved. Goals that a proof says nothing of are told before the line of their function; they count where no
+    answer of that proof is left over."""
+    found, misfits, open_goal = {}, set(), None
     for line in said.split('\n'):
         own, lemma, function = OWN_FACT.match(line), LEMMA.match(line), OF_FUNCTION.match(line)
         if own or lemma:
-            if not any(words in line for words in OTHER_SHAPE):
-                found.setdefault(full_name(own.group(1).split('/')) if own else lemma.group(1), line)
+            name = full_name(own.group(1).split('/')) if own else lemma.group(1)
+            if any(words in line for words in OTHER_SHAPE):
+                misfits.add(name)
+            else:
+                found.setdefault(name, line)
         elif OPEN_GOAL.match(line):
             open_goal = open_goal or line
         elif function:
-            if open_goal or '`search` did not prove' in function.group(2):
-                found.setdefault(full_name(function.group(1).split('::')), open_goal or line)
+            name = full_name(function.group(1).split('::'))
+            if name not in misfits and (open_goal or '`search` did not prove' in function.group(2)):
+                found.setdefault(name, open_goal or line)
             open_goal = None
     return found
