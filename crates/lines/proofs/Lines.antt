@@ -93,4 +93,4 @@ module _ (line : Printed) where
         (joined_written times (source_text line) at source p l one two e f) g
         ∙ ap (sets l at) line_parts
 
-pub ruleset line_Joins = (line_next, line_written)
+pub ruleset line_joins = (line_next, line_written)

@@ -105,7 +105,7 @@ module _ (s : List ℕ) (place size : ℕ) (ok : is_fine (top_of s (placed s pla
       sym (ap (λ (w : Voice). At w place size) (track_made s v (placed s place size) t.0 t.1).voiced)
       ∙ sym (ap (λ (c : Checked Top). found_track (found_top c)) t.2)
 
-pub ruleset row_Counts = (rows_refused, rows_closed, rows_opened)
+pub ruleset row_counts = (rows_refused, rows_closed, rows_opened)
 
 pub ruleset top_tracks = (track_refused, track_closed, track_opened)
 

@@ -168,7 +168,7 @@ module _ (l : List ℕ) (from count at : ℕ) where
     pub words_kept : length out ≡ length l
     words_kept = c.copied.same
 
-pub ruleset Words-Copied = (words_start, words_read, words_read_fits, words_write, words_write_fits, words_near, words_turn, words_done, words_kept)
+pub ruleset words_copied = (words_start, words_read, words_read_fits, words_write, words_write_fits, words_near, words_turn, words_done, words_kept)
 
 -- A PART of a table after more was stored behind it, and the part that was stored
 

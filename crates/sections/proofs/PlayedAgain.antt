@@ -78,16 +78,16 @@ steps_low low high (row ∷ rows) rises zero h = rising_low row.step high rows r
 steps_low low high (row ∷ rows) rises (suc i) h = steps_low row.step high rows rises.1 i (omega arith)
 
 module _ (items : Items) (span : Span) (steps words : List ℕ) (at before : ℕ) where
-  pub stored_kept : (standing : Standing) (more Words-more : List ℕ) (past later-on : ℕ) → at ≤ past → before ≤ later-on
+  pub stored_kept : (standing : Standing) (more words_more : List ℕ) (past later-on : ℕ) → at ≤ past → before ≤ later-on
       → StoredWhereKnown items span standing steps words at before
-      → StoredWhereKnown items span standing (sets steps at more) (sets words at Words-more) past later-on
-  stored_kept standing more Words-more past later-on h k known flag =
+      → StoredWhereKnown items span standing (sets steps at more) (sets words at words_more) past later-on
+  stored_kept standing more words_more past later-on h k known flag =
       let s = known flag in
       record {
         inside = omega (arith, s.inside);
         past = omega (arith, s.past);
         steps_stand = part_before steps standing.row span.messages at more s.inside ∙ s.steps_stand;
-        words_stand = part_before words standing.row span.messages at Words-more s.inside ∙ s.words_stand;
+        words_stand = part_before words standing.row span.messages at words_more s.inside ∙ s.words_stand;
         low = s.low;
       }
 
