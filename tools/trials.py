@@ -2,6 +2,7 @@
 them. A function's proof rests on what other functions promise and not on how they keep it, so changes in different functions can be tried at
 once: each is judged by the facts of its own function."""
 import contextlib
+import difflib
 import glob
 import os
 import re
@@ -15,6 +16,8 @@ LEMMA = re.compile(r'(?:\./)?(proofs/[\w/+]+\.antt):\d+:\d+: error: ')
 OPEN_GOAL = re.compile(r'note: src/\w+\.rt:\d+:\d+: it is not proved that ')
 OF_FUNCTION = re.compile(r'fn \w+::([\w:]+): (.*)')
 MISTAKE = re.compile(r'(?:\./)?(src/\w+\.rt):(\d+):\d+: error\[')
+GONE = re.compile(r'^(?:\./)?(proofs/[\w/+]+\.antt):\d+:\d+: error: .*module `[^`]*\.Goals` has no `([^`]+)` that can be named from here', re.M)
+ASKED = re.compile(r'^help: `Goals` has no `([^`]+)`; rattle asks for (.*?)(?:;|$)', re.M)
 OTHER_SHAPE = ('can be named from here', 'has no field', 'is not in scope', 'was not admitted', 'was not checked', 'were not checked', 'cannot be read',
                'this pattern needs', 'write the clause', 'no clause covers')
 LIMIT = 1800  # seconds
@@ -143,6 +146,24 @@ class Room:
     def write(self, path, text):
         with open(f'{self.folder}/{path}', 'w') as file:
             file.write(text)
+
+
+def fitted(room, crate, said):
+    """What brings the proofs of a crate to the names that their goals have after a change, as a trial beside it, where a check said that some are gone: a goal is
+    named by the tests before it, so one with another number has another name. None where nothing is left to be named so."""
+    asked = {gone: re.findall(r'`([^`]+)`', names) for gone, names in ASKED.findall(said)}
+    renamed = {}
+    for path, gone in dict.fromkeys(GONE.findall(said)):
+        text = room.text(f'crates/{crate}/{path}')
+        names = renamed.setdefault(path, {})
+        free = [name for name in asked.get(gone, []) if name not in names.values() and not re.search(rf'^(?:pub )?{re.escape(name)} :', text, re.M)]
+        names.update((gone, name) for name in difflib.get_close_matches(gone, free, 1))
+    pieces = []
+    for path, names in renamed.items():
+        text = room.text(f'crates/{crate}/{path}')
+        new = re.sub(r"[\w'+-]+", lambda word: names.get(word[0], word[0]), text)
+        pieces += [Piece(f'crates/{crate}/{path}', text, 0, len(text), new)] if new != text else []
+    return Trial(crate, pieces) if pieces else None
 
 
 def not_built(said):
