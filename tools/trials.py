@@ -148,6 +148,11 @@ class Room:
             file.write(text)
 
 
+def test_of(goal):
+    """The last test that a goal is named by: its facts and the ways into a join have that in their names too."""
+    return re.split(r'(?<![a-z])(?:then|else|if)-', goal)[-1]
+
+
 def fitted(room, crate, said):
     """What brings the proofs of a crate to the names that their goals have after a change, as a trial beside it, where a check said that some are gone: a goal is
     named by the tests before it, so one with another number has another name. None where nothing is left to be named so."""
@@ -160,8 +165,9 @@ def fitted(room, crate, said):
         names.update((gone, name) for name in difflib.get_close_matches(gone, free, 1))
     pieces = []
     for path, names in renamed.items():
-        text = room.text(f'crates/{crate}/{path}')
-        new = re.sub(r"[\w'+-]+", lambda word: names.get(word[0], word[0]), text)
+        text = new = room.text(f'crates/{crate}/{path}')
+        for gone, name in [*names.items(), *((test_of(gone), test_of(name)) for gone, name in names.items())]:
+            new = re.sub(rf"(?<![\w'+]){re.escape(gone)}(?![\w'])", name, new)
         pieces += [Piece(f'crates/{crate}/{path}', text, 0, len(text), new)] if new != text else []
     return Trial(crate, pieces) if pieces else None
 
