@@ -8,16 +8,15 @@ use lib.Seq.{get_or-set_same, get_or-set_other, get_or-drop}
 use native.Mathlib.Nat.{add-zero}
 use native.Mathlib.Omega.{arith}
 use borrow.Author.Tests.{eqb-true, eqb-false}
-use Rattle.model.specs.Words.{when◌then◌else◌, ◌or◌, ◌≡?◌, any, Checked, Checked.fine, Checked.refused, ◌>>◌}
+use Rattle.model.specs.Words.{when◌then◌else◌, ◌or◌, ◌≡?◌, any, Checked, ◌>>◌, refused}
+use Rattle.std.specs.Prelude.{Ok}
 use Rattle.model.specs.Bytes.{◌!◌}
 use Rattle.model.specs.Tables.{Given, first_given, once_from, given_in}
-use Rattle.model.specs.declared.Counted.{Counted}
-use Rattle.model.specs.declared.Counted.TheVariants as counted
 use Rattle.model.proofs.Tests.{if_false, by_test, is_on, is_off}
 use Rattle.seek.proofs.Ordering.{none_flagged}
 use Rattle.arranging.specs.declared.tables.Stretches.{Stretches}
 use Rattle.arranging.specs.Apart.{given_at, Apart}
-use Rattle.arranging.specs.Stages.{how_many, count_answer}
+use Rattle.arranging.specs.Stages.{how_many}
 use Rattle.arranging.proofs.Clipping.{clip_next, clip_to, apart}
 use Rattle.arranging.proofs.Tracks.{Left, left_starts, left_no_numbers, left_no_bytes, left_next}
 
@@ -25,7 +24,7 @@ use Rattle.arranging.proofs.Tracks.{Left, left_starts, left_no_numbers, left_no_
 unfoldable pub counted_from : List ℕ → ℕ → List Given → Checked ℕ
 counted_from before count left = do
   once_from before count left
-  when count + length left ≡? 0 then refused 7 0 else fine (count + length left)
+  when count + length left ≡? 0 then refused 7 0 else Ok (count + length left)
 
 abbrev pub met_before : List ℕ → ℕ → Bool
 met_before before number = any (λ earlier. earlier ≡? number) before
@@ -37,7 +36,7 @@ pub record Counting (numbers bytes : List ℕ) (seen : List Bool) (count p q : �
   pub left : List Given
   pub from : Left numbers bytes p q left
   pub few : count ≤ p
-  pub same : count_answer (counted_from before count left) ≡ count_answer (how_many (given_in numbers bytes))
+  pub same : counted_from before count left ≡ how_many (given_in numbers bytes)
 
 module _ (numbers bytes : List ℕ) where
   pub count_starts : (q : ℕ) → q ≡ min (0 + 5) (length bytes) → Counting numbers bytes (replicate 256 false) 0 0 q
@@ -51,7 +50,7 @@ module _ (numbers bytes : List ℕ) where
         left = given_in numbers bytes;
         from = left_starts numbers bytes q (clip_next bytes 0 5 q (omega arith) e) (clip_to bytes 0 5 q (omega arith) e);
         few = omega arith;
-        same = ap (λ (n : ℕ). count_answer (once_from [] 0 (given_in numbers bytes) >> (when n ≡? 0 then refused 7 0 else fine n))) all;
+        same = ap (λ (n : ℕ). once_from [] 0 (given_in numbers bytes) >> (when n ≡? 0 then refused 7 0 else Ok n)) all;
       }
 
   module _ (seen : List Bool) (count p q : ℕ) (r : Counting numbers bytes seen count p q) where
@@ -62,21 +61,21 @@ module _ (numbers bytes : List ℕ) where
     count_within = r.from.within
 
     -- no track is left
-    over : r.left ≡ [] → (z : Counted) → z ≡ (when count ≡? 0 then counted.Refused 7 0 else counted.Rows count) → z ≡ count_answer (how_many (given_in numbers bytes))
-    unfolding counted_from once_from ◌>>◌ count_answer when◌then◌else◌
+    over : r.left ≡ [] → (z : Checked ℕ) → z ≡ (when count ≡? 0 then refused 7 0 else Ok count) → z ≡ how_many (given_in numbers bytes)
+    unfolding counted_from once_from ◌>>◌ when◌then◌else◌
     over none z e =
-        let all = ap (λ (l : List Given). count_answer (counted_from r.before count l)) (sym none) ∙ r.same in
+        let all = ap (λ (l : List Given). counted_from r.before count l) (sym none) ∙ r.same in
         let sum : count + 0 ≡ count = add-zero count in
         by_test (count ≡? 0)
         (λ h. e ∙ simp h (simp (sum, h) at all))
         (λ h. e ∙ simp h (simp (sum, h) at all))
 
-    pub count_no_numbers : length numbers - p < 4 → (z : Counted) → z ≡ (when count ≡? 0 then counted.Refused 7 0 else counted.Rows count)
-        → z ≡ count_answer (how_many (given_in numbers bytes))
+    pub count_no_numbers : length numbers - p < 4 → (z : Checked ℕ) → z ≡ (when count ≡? 0 then refused 7 0 else Ok count)
+        → z ≡ how_many (given_in numbers bytes)
     count_no_numbers h = over (left_no_numbers numbers bytes p q r.left r.from h)
 
-    pub count_no_bytes : length bytes - q < 7 → (z : Counted) → z ≡ (when count ≡? 0 then counted.Refused 7 0 else counted.Rows count)
-        → z ≡ count_answer (how_many (given_in numbers bytes))
+    pub count_no_bytes : length bytes - q < 7 → (z : Checked ℕ) → z ≡ (when count ≡? 0 then refused 7 0 else Ok count)
+        → z ≡ how_many (given_in numbers bytes)
     count_no_bytes h = over (left_no_bytes numbers bytes p q r.left r.from h)
 
     -- a track is left
@@ -92,11 +91,11 @@ module _ (numbers bytes : List ℕ) where
       met : met_before r.before (given_at numbers bytes p q).number ≡ get_or seen slot false
       met = ap (met_before r.before) number_is ∙ r.flagged slot small
 
-      whole : count_answer (counted_from r.before count (given_at numbers bytes p q ∷ next.0)) ≡ count_answer (how_many (given_in numbers bytes))
-      whole = ap (λ (l : List Given). count_answer (counted_from r.before count l)) (sym next.1) ∙ r.same
+      whole : counted_from r.before count (given_at numbers bytes p q ∷ next.0) ≡ how_many (given_in numbers bytes)
+      whole = ap (λ (l : List Given). counted_from r.before count l) (sym next.1) ∙ r.same
 
-      again : get_or seen slot false ≡ true → counted.Refused 6 count ≡ count_answer (how_many (given_in numbers bytes))
-      unfolding counted_from once_from ◌>>◌ count_answer when◌then◌else◌
+      again : get_or seen slot false ≡ true → refused 6 count ≡ how_many (given_in numbers bytes)
+      unfolding counted_from once_from ◌>>◌ when◌then◌else◌
       again h = let twice = met ∙ h in simp twice at whole
 
       pub count_nears : length numbers - parts.numbers < length numbers - p
@@ -110,7 +109,7 @@ module _ (numbers bytes : List ℕ) where
           let rest = next.0 in
           let many : count + length (one ∷ rest) ≡ count + 1 + length rest = omega arith in
           let passes : once_from r.before count (one ∷ rest) ≡ once_from (one.number ∷ r.before) (count + 1) rest = if_false (met_before r.before one.number) _ _ first in
-          let on : count_answer (counted_from (one.number ∷ r.before) (count + 1) rest) ≡ count_answer (how_many (given_in numbers bytes)) = rw (passes, many) at whole in
+          let on : counted_from (one.number ∷ r.before) (count + 1) rest ≡ how_many (given_in numbers bytes) = rw (passes, many) at whole in
           record {
             before = one.number ∷ r.before;
             long = length-set seen slot true ∙ r.long;
@@ -133,7 +132,7 @@ module _ (numbers bytes : List ℕ) where
 
     -- that a track is left can be told before its stretches are found
     pub count_again : 4 ≤ length numbers - p → 7 ≤ length bytes - q → (slot : ℕ) → slot ≡ bytes ! q → slot < 256 → get_or seen slot false ≡ true
-        → counted.Refused 6 count ≡ count_answer (how_many (given_in numbers bytes))
+        → refused 6 count ≡ how_many (given_in numbers bytes)
     count_again here there slot numbered small h =
         let inside = r.from.inside in
         let within = r.from.within in

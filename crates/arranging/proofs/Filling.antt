@@ -8,7 +8,8 @@ use lib.ListN.{length, length-append}
 use lib.Seq.{sets}
 use native.Mathlib.Nat.{add-zero}
 use native.Mathlib.Omega.{arith}
-use Rattle.model.specs.Words.{Checked, Checked.fine}
+use Rattle.model.specs.Words.{Checked}
+use Rattle.std.specs.Prelude.{Ok}
 use Rattle.model.specs.Item.{is_fine}
 use Rattle.model.specs.Arrangement.{ScoreTrack, tracks_bytes}
 use Rattle.model.specs.Tables.{Given, given_in, track_given, tracks_from}
@@ -26,7 +27,7 @@ pub record Filling (numbers bytes : List ℕ) (count start : ℕ) (l out : List 
   pub from : Left numbers bytes p q left
   pub many : i + length left ≡ count
   pub rest : List ScoreTrack
-  pub are : tracks_from i left ≡ fine rest
+  pub are : tracks_from i left ≡ Ok rest
   pub size : at + length (tracks_bytes rest) ≡ start + length (tracks_given_bytes (tracks_from 0 (given_in numbers bytes)))
   pub room : at + length (tracks_bytes rest) ≤ length out
   pub few : length (tracks_bytes rest) ≤ 65536
@@ -89,7 +90,7 @@ module _ (numbers bytes : List ℕ) (count start : ℕ) (l : List ℕ) where
         abbrev one : Checked ScoreTrack
         one = track_given (given_at numbers bytes p q)
 
-        first : (track : ScoreTrack) × (tracks : List ScoreTrack) × (one ≡ fine track) × (tracks_from (i + 1) next.0 ≡ fine tracks) × (r.rest ≡ track ∷ tracks)
+        first : (track : ScoreTrack) × (tracks : List ScoreTrack) × (one ≡ Ok track) × (tracks_from (i + 1) next.0 ≡ Ok tracks) × (r.rest ≡ track ∷ tracks)
         unfolding tracks_from
         first =
             let a = bind_fine _ _ r.rest (ap (tracks_from i) (sym next.1) ∙ r.are) in

@@ -6,11 +6,10 @@ use mathlib.Core.Path.{◌≡◌, refl, ◌∙◌, ap}
 use lib.ListN.{length, take, drop}
 use lib.Seq.{sets, get_or-take, take-take}
 use native.Mathlib.Omega.{arith}
-use Rattle.model.specs.Words.{told_at}
+use Rattle.model.specs.Words.{told_at, Checked}
 use Rattle.model.specs.Bytes.{◌!◌, part}
 use Rattle.model.specs.Item.{is_fine}
 use Rattle.model.specs.Tables.{Given, first_given, track_given}
-use Rattle.model.specs.declared.Wrote.{Wrote}
 use Rattle.model.proofs.Parts.{part_length}
 use Rattle.arranging.specs.declared.tables.Stretches.{Stretches}
 use Rattle.arranging.specs.Apart.{given_at, Apart}
@@ -37,7 +36,7 @@ module _ (numbers bytes : List ℕ) (p q : ℕ) (r : Stretches) (apart : Apart n
   pub head_length : length (part bytes q (q + 7 - q)) ≡ 7
   head_length = part_length bytes q (q + 7 - q) (omega (arith, apart.letters_from, apart.source_from, apart.bytes_to)) ∙ omega arith
 
-  pub at_answer : (index : ℕ) (z : Wrote) → z ≡ track_answer (told_at index (track_given there)) → z ≡ track_answer (told_at index (track_given (given_at numbers bytes p q)))
+  pub at_answer : (index : ℕ) (z : Checked ℕ) → z ≡ track_answer (told_at index (track_given there)) → z ≡ track_answer (told_at index (track_given (given_at numbers bytes p q)))
   at_answer index z e = e ∙ ap (λ (g : Given). track_answer (told_at index (track_given g))) joined
 
   pub at_fine : is_fine (track_given (given_at numbers bytes p q)) ≡ true → is_fine (track_given there) ≡ true

@@ -6,26 +6,24 @@ use mathlib.Core.Path.{◌≡◌, refl, sym, ◌∙◌, ap}
 use lib.ListN.{length, take}
 use native.Mathlib.Omega.{arith}
 use borrow.Author.Tests.{eqb-false}
-use Rattle.model.specs.Words.{when◌then◌else◌, ◌<?◌, ◌≡?◌, Checked, Checked.fine, Checked.refused, passed, ◌>>=◌, ◌>>◌}
+use Rattle.model.specs.Words.{when◌then◌else◌, ◌<?◌, ◌≡?◌, Checked, passed, ◌>>=◌, ◌>>◌, refused}
+use Rattle.std.specs.Prelude.{Ok, Err}
+use Rattle.model.specs.declared.Refusal.{Refusal}
 use Rattle.model.specs.ChunkBytes.{file_with}
 use Rattle.model.specs.Item.{is_fine}
 use Rattle.model.specs.Arrangement.{ScoreTrack, file_bytes}
 use Rattle.model.specs.Tables.{Given, given_in, once_from, tracks_from, arrangement_of}
 use Rattle.model.specs.Answer.{memory_after, within_room, write_of, write_answer, write_room}
-use Rattle.model.specs.declared.Counted.{Counted}
-use Rattle.model.specs.declared.Counted.TheVariants as counted
-use Rattle.model.specs.declared.Wrote.{Wrote}
-use Rattle.model.specs.declared.Wrote.TheVariants.{Bytes, Refused}
 use Rattle.model.proofs.Outcomes.{bind_fine, then_fine, not_refused_fine, past_fine}
 use Rattle.model.proofs.Tests.{by_test}
 use Rattle.writing.specs.Parts.{limited}
-use Rattle.arranging.specs.Stages.{how_many, count_answer, tracks_answer, tracks_given_bytes, bare_bytes, whole_bytes, sized_of}
+use Rattle.arranging.specs.Stages.{how_many, tracks_answer, tracks_given_bytes, bare_bytes, whole_bytes, sized_of}
 use Rattle.arranging.proofs.Clipping.{clip_next, clip_to}
 use Rattle.arranging.proofs.Tracks.{left_starts, left_bytes}
 
 -- refused before anything is written
-module _ (numbers bytes l : List ℕ) (number place : ℕ) (refuses : write_of numbers bytes (length l) ≡ refused number place) where
-  refused_answer : Refused number place ≡ write_answer (write_of numbers bytes (length l))
+module _ (numbers bytes l : List ℕ) (why : Refusal) (refuses : write_of numbers bytes (length l) ≡ Err why) where
+  refused_answer : Err why ≡ write_answer (write_of numbers bytes (length l))
   unfolding write_answer
   refused_answer = rw refuses
 
@@ -39,7 +37,7 @@ behind numbers bytes room = do
   tracks ← tracks_from 0 (given_in numbers bytes)
   sized_of numbers bytes room
 
-tracks_many : (index : ℕ) (given : List Given) (tracks : List ScoreTrack) → tracks_from index given ≡ fine tracks → length tracks ≡ length given
+tracks_many : (index : ℕ) (given : List Given) (tracks : List ScoreTrack) → tracks_from index given ≡ Ok tracks → length tracks ≡ length given
 unfolding tracks_from
 tracks_many index [] tracks e = let none : [] ≡ tracks = cc in ap length (sym none)
 tracks_many index (one ∷ given) tracks e =
@@ -53,7 +51,7 @@ module _ (numbers bytes : List ℕ) (room : ℕ) where
   given = given_in numbers bytes
 
   -- with the tracks at hand, what is left goes by their bytes alone
-  sized_so : (tracks : List ScoreTrack) → tracks_from 0 given ≡ fine tracks
+  sized_so : (tracks : List ScoreTrack) → tracks_from 0 given ≡ Ok tracks
       → ((when 16 <? length tracks then refused 24 0 else passed) >> within_room room (file_bytes (record { contents = take 5 bytes; tracks = tracks })))
       ≡ sized_of numbers bytes room
   unfolding sized_of file_bytes file_with whole_bytes bare_bytes tracks_given_bytes
@@ -66,21 +64,11 @@ module _ (numbers bytes : List ℕ) (room : ℕ) where
     where
       go : (o : Checked (Unit {0})) → once_from [] 0 given ≡ o → (p : Checked (List ScoreTrack)) → tracks_from 0 given ≡ p
           → write_of numbers bytes room ≡ (how_many given >>= λ count. behind numbers bytes room)
-      go (refused number place) e p f = rw e
-      go (fine u) e (refused number place) f = by_test (length given ≡? 0) (λ h. rw (e, h)) (λ h. rw (e, h, f))
-      go (fine u) e (fine tracks) f = by_test (length given ≡? 0) (λ h. rw (e, h)) (λ h. rw (e, h, f) (sized_so tracks f))
+      go (Err why) e p f = rw e
+      go (Ok u) e (Err why) f = by_test (length given ≡? 0) (λ h. rw (e, h)) (λ h. rw (e, h, f))
+      go (Ok u) e (Ok tracks) f = by_test (length given ≡? 0) (λ h. rw (e, h)) (λ h. rw (e, h, f) (sized_so tracks f))
 
-count_refused : (o : Checked ℕ) (number place : ℕ) → count_answer o ≡ counted.Refused number place → o ≡ refused number place
-unfolding count_answer
-count_refused (fine count) number place e = let z : ◌≡◌ {A = ℕ} 0 1 = cc in absurd (omega arith)
-count_refused (refused n p) number place e = cc
-
-count_fine : (o : Checked ℕ) (count : ℕ) → count_answer o ≡ counted.Rows count → o ≡ fine count
-unfolding count_answer
-count_fine (fine n) count e = cc
-count_fine (refused n p) count e = let z : ◌≡◌ {A = ℕ} 0 1 = cc in absurd (omega arith)
-
-how_many_lem : (given : List Given) (count : ℕ) → how_many given ≡ fine count → (count ≡ length given) × (0 < count)
+how_many_lem : (given : List Given) (count : ℕ) → how_many given ≡ Ok count → (count ≡ length given) × (0 < count)
 unfolding how_many
 how_many_lem given count e =
     let a = then_fine _ _ count e in
@@ -88,32 +76,32 @@ how_many_lem given count e =
     let same : length given ≡ count = let q = past_fine _ 7 0 _ count a.1 in cc in
     (sym same, omega arith)
 
-tracks_refused : (o : Checked (List ScoreTrack)) (number place : ℕ) → tracks_answer o ≡ Refused number place → o ≡ refused number place
+tracks_refused : (o : Checked (List ScoreTrack)) (why : Refusal) → tracks_answer o ≡ Err why → o ≡ Err why
 unfolding tracks_answer
-tracks_refused (fine tracks) number place e = let z : ◌≡◌ {A = ℕ} 0 1 = cc in absurd (omega arith)
-tracks_refused (refused n p) number place e = cc
+tracks_refused (Ok tracks) why e = let z : ◌≡◌ {A = ℕ} 0 1 = cc in absurd (omega arith)
+tracks_refused (Err told) why e = let same : told ≡ why = cc in rw same refl
 
-tracks_fine : (o : Checked (List ScoreTrack)) (size : ℕ) → tracks_answer o ≡ Bytes size
-    → (tracks : List ScoreTrack) × (o ≡ fine tracks) × (size ≡ limited (length (tracks_given_bytes o)))
+tracks_fine : (o : Checked (List ScoreTrack)) (size : ℕ) → tracks_answer o ≡ Ok size
+    → (tracks : List ScoreTrack) × (o ≡ Ok tracks) × (size ≡ limited (length (tracks_given_bytes o)))
 unfolding tracks_answer tracks_given_bytes
-tracks_fine (fine tracks) size e = (tracks, refl, cc)
-tracks_fine (refused n p) size e = let z : ◌≡◌ {A = ℕ} 0 1 = cc in absurd (omega arith)
+tracks_fine (Ok tracks) size e = (tracks, refl, cc)
+tracks_fine (Err why) size e = let z : ◌≡◌ {A = ℕ} 0 1 = cc in absurd (omega arith)
 
-module _ (numbers bytes l : List ℕ) (many : Counted) (counts : many ≡ count_answer (how_many (given_in numbers bytes))) where
-  module _ (number place : ℕ) (refuses : many ≡ counted.Refused number place) where
-    none_written : write_of numbers bytes (length l) ≡ refused number place
+module _ (numbers bytes l : List ℕ) (many : Checked ℕ) (counts : many ≡ how_many (given_in numbers bytes)) where
+  module _ (why : Refusal) (refuses : many ≡ Err why) where
+    none_written : write_of numbers bytes (length l) ≡ Err why
     unfolding ◌>>=◌
-    none_written = staged numbers bytes (length l) ∙ rw (count_refused (how_many (given_in numbers bytes)) number place (sym counts ∙ refuses))
+    none_written = staged numbers bytes (length l) ∙ rw (sym counts ∙ refuses)
 
-    pub count_answer_lem : Refused number place ≡ write_answer (write_of numbers bytes (length l))
-    count_answer_lem = refused_answer numbers bytes l number place none_written
+    pub count_refused : Err why ≡ write_answer (write_of numbers bytes (length l))
+    count_refused = refused_answer numbers bytes l why none_written
 
     pub count_kept : l ≡ write_room l (write_of numbers bytes (length l))
-    count_kept = refused_kept numbers bytes l number place none_written
+    count_kept = refused_kept numbers bytes l why none_written
 
-  module _ (count : ℕ) (counted-so : many ≡ counted.Rows count) where
-    is_fine_lem : how_many (given_in numbers bytes) ≡ fine count
-    is_fine_lem = count_fine (how_many (given_in numbers bytes)) count (sym counts ∙ counted-so)
+  module _ (count : ℕ) (counted-so : many ≡ Ok count) where
+    is_fine_lem : how_many (given_in numbers bytes) ≡ Ok count
+    is_fine_lem = sym counts ∙ counted-so
 
     pub count_is : count ≡ length (given_in numbers bytes)
     count_is = (how_many_lem (given_in numbers bytes) count is_fine_lem).0
@@ -129,20 +117,20 @@ module _ (numbers bytes l : List ℕ) (many : Counted) (counts : many ≡ count_
     unfolding ◌>>=◌
     rests = staged numbers bytes (length l) ∙ rw is_fine_lem
 
-    module _ (answer : Wrote) (is : answer ≡ tracks_answer (tracks_from 0 (given_in numbers bytes))) where
-      module _ (number place : ℕ) (refuses : answer ≡ Refused number place) where
-        not_written : write_of numbers bytes (length l) ≡ refused number place
+    module _ (answer : Checked ℕ) (is : answer ≡ tracks_answer (tracks_from 0 (given_in numbers bytes))) where
+      module _ (why : Refusal) (refuses : answer ≡ Err why) where
+        not_written : write_of numbers bytes (length l) ≡ Err why
         unfolding behind ◌>>=◌
-        not_written = rests ∙ rw (tracks_refused (tracks_from 0 (given_in numbers bytes)) number place (sym is ∙ refuses))
+        not_written = rests ∙ rw (tracks_refused (tracks_from 0 (given_in numbers bytes)) why (sym is ∙ refuses))
 
-        pub tracks_answer_lem : Refused number place ≡ write_answer (write_of numbers bytes (length l))
-        tracks_answer_lem = refused_answer numbers bytes l number place not_written
+        pub tracks_answer_lem : Err why ≡ write_answer (write_of numbers bytes (length l))
+        tracks_answer_lem = refused_answer numbers bytes l why not_written
 
         pub tracks_kept : l ≡ write_room l (write_of numbers bytes (length l))
-        tracks_kept = refused_kept numbers bytes l number place not_written
+        tracks_kept = refused_kept numbers bytes l why not_written
 
-      module _ (size : ℕ) (sized : answer ≡ Bytes size) where
-        these : (tracks : List ScoreTrack) × (tracks_from 0 (given_in numbers bytes) ≡ fine tracks)
+      module _ (size : ℕ) (sized : answer ≡ Ok size) where
+        these : (tracks : List ScoreTrack) × (tracks_from 0 (given_in numbers bytes) ≡ Ok tracks)
             × (size ≡ limited (length (tracks_given_bytes (tracks_from 0 (given_in numbers bytes)))))
         these = tracks_fine (tracks_from 0 (given_in numbers bytes)) size (sym is ∙ sized)
 
@@ -157,14 +145,14 @@ module _ (numbers bytes l : List ℕ) (many : Counted) (counts : many ≡ count_
         unfolding behind ◌>>=◌
         goes_on = rests ∙ rw these.1
 
-        pub sized_answer : (z : Wrote) → z ≡ write_answer (sized_of numbers bytes (length l)) → z ≡ write_answer (write_of numbers bytes (length l))
+        pub sized_answer : (z : Checked ℕ) → z ≡ write_answer (sized_of numbers bytes (length l)) → z ≡ write_answer (write_of numbers bytes (length l))
         sized_answer z e = e ∙ ap write_answer (sym goes_on)
 
         pub sized_room : (m : List ℕ) → m ≡ write_room l (sized_of numbers bytes (length l)) → m ≡ write_room l (write_of numbers bytes (length l))
         sized_room m e = e ∙ ap (write_room l) (sym goes_on)
 
 pub ruleset written = (
-  count_answer_lem,
+  count_refused,
   count_kept,
   count_is,
   contents_there,

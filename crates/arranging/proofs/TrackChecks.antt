@@ -5,7 +5,9 @@ use mathlib.Core.List.{List, [], ◌∷◌, ◌++◌}
 use mathlib.Core.Path.{◌≡◌, refl, sym, ◌∙◌, ap}
 use lib.ListN.{length, length-append}
 use native.Mathlib.Omega.{arith}
-use Rattle.model.specs.Words.{◌and◌, ◌≡?◌, Placed, Checked, Checked.fine, Checked.refused, passed, ◌>>=◌, ◌>>◌, told_at, all_pass}
+use Rattle.model.specs.Words.{◌and◌, ◌≡?◌, Placed, Checked, passed, ◌>>=◌, ◌>>◌, told_at, all_pass, refused}
+use Rattle.model.specs.declared.Refusal.{Refusal}
+use Rattle.std.specs.Prelude.{Ok, Err}
 use Rattle.model.specs.Bytes.{◌!◌, part, MTR, Mtsq}
 use Rattle.model.specs.ChunkBytes.{chunk_bytes}
 use Rattle.model.specs.Item.{Item, is_fine, found}
@@ -19,8 +21,6 @@ use Rattle.model.specs.SeekBytes.{entries_given}
 use Rattle.model.specs.Arrangement.{ScoreTrack, has_phrases, seek_chunk, track_bytes}
 use Rattle.model.specs.Tables.{fixed_given, track_given}
 use Rattle.model.specs.declared.Voice.TheVariants.{Score}
-use Rattle.model.specs.declared.Wrote.{Wrote}
-use Rattle.model.specs.declared.Wrote.TheVariants.{Bytes, Refused}
 use Rattle.model.proofs.Outcomes.{bind_fine, then_fine}
 use Rattle.model.proofs.Parts.{part_length}
 use Rattle.model.proofs.Tests.{by_test, if_all, if_true, if_false, flag_on, flag_off}
@@ -73,19 +73,19 @@ module _ (phrases : Bool) (entries items letters : List ℕ) where
   stage_numbered = go (entries_given phrases letters entries) refl
     where
       go : (o : Checked (List (Placed Entry))) → entries_given phrases letters entries ≡ o → Numbered (seek_stage phrases entries items letters)
-      go (fine placed) e = rw e (then_numbered _ _ (rules_numbered phrases (is_place items) placed) tt)
-      go (refused number place) e = rw e (let twelve = given_twelve phrases letters entries number place e in omega arith)
+      go (Ok placed) e = rw e (then_numbered _ _ (rules_numbered phrases (is_place items) placed) tt)
+      go (Err why) e = rw e (let twelve = given_twelve phrases letters entries why.number why.place e in omega arith)
 
-  stage_given : (placed : List (Placed Entry)) → seek_stage phrases entries items letters ≡ fine placed → entries_given phrases letters entries ≡ fine placed
+  stage_given : (placed : List (Placed Entry)) → seek_stage phrases entries items letters ≡ Ok placed → entries_given phrases letters entries ≡ Ok placed
   unfolding seek_stage
   stage_given placed e =
       let b = bind_fine _ _ placed e in
       let t = then_fine _ _ placed b.2 in
       let same : b.0 ≡ placed = let q = t.1 in cc in
-      b.1 ∙ ap fine same
+      b.1 ∙ ap Ok same
 
   -- how many bytes the chunk takes of entries that keep the rules
-  stage_sized : (placed : List (Placed Entry)) → seek_stage phrases entries items letters ≡ fine placed
+  stage_sized : (placed : List (Placed Entry)) → seek_stage phrases entries items letters ≡ Ok placed
       → seek_size phrases letters (rows_in entries) ≡ length (seek_chunk (point_width phrases) (entries_in placed))
   unfolding is_fine found
   stage_sized placed e =
@@ -101,9 +101,9 @@ track_sum chunk body seek first whole a b c =
 
 -- how many bytes a track takes whose items take so many, from the stage of its entries
 module _ (index : ℕ) (phrases : Bool) (body : ℕ) where
-  size_behind : Checked (List (Placed Entry)) → Wrote
-  size_behind (fine placed) = Bytes (limited (length (seek_chunk (point_width phrases) (entries_in placed)) + body + 22))
-  size_behind (refused number place) = Refused number index
+  size_behind : Checked (List (Placed Entry)) → Checked ℕ
+  size_behind (Ok placed) = Ok (limited (length (seek_chunk (point_width phrases) (entries_in placed)) + body + 22))
+  size_behind (Err why) = refused why.number index
 
 fixed_off : (fixed : List ℕ) → is_fine (fixed_given fixed) ≡ false → fixed_given fixed ≡ refused 8 0
 unfolding fixed_given is_fine
@@ -119,16 +119,16 @@ fixed_on fixed h =
     (λ t. if_true _ _ _ t)
     (λ t. absurd (false≢true (sym (ap is_fine (if_false _ _ _ t)) ∙ h)))
 
-items_refused : (o : Checked (List (Item Content))) (number place : ℕ) → size_answer o ≡ Refused number place → o ≡ refused number place
+items_refused : (o : Checked (List (Item Content))) (why : Refusal) → size_answer o ≡ Err why → o ≡ Err why
 unfolding size_answer
-items_refused (fine list) number place e = let z : ◌≡◌ {A = ℕ} 0 1 = cc in absurd (omega arith)
-items_refused (refused n p) number place e = cc
+items_refused (Ok list) why e = let z : ◌≡◌ {A = ℕ} 0 1 = cc in absurd (omega arith)
+items_refused (Err told) why e = let same : told ≡ why = cc in rw same refl
 
-items_fine : (o : Checked (List (Item Content))) (size : ℕ) → size_answer o ≡ Bytes size
-    → (list : List (Item Content)) × (o ≡ fine list) × (size ≡ limited (length (bytes_of handy_phone list)))
+items_fine : (o : Checked (List (Item Content))) (size : ℕ) → size_answer o ≡ Ok size
+    → (list : List (Item Content)) × (o ≡ Ok list) × (size ≡ limited (length (bytes_of handy_phone list)))
 unfolding size_answer
-items_fine (fine list) size e = (list, refl, cc)
-items_fine (refused n p) size e = let z : ◌≡◌ {A = ℕ} 0 1 = cc in absurd (omega arith)
+items_fine (Ok list) size e = (list, refl, cc)
+items_fine (Err why) size e = let z : ◌≡◌ {A = ℕ} 0 1 = cc in absurd (omega arith)
 
 module _ (index : ℕ) (head entries items letters source : List ℕ) where
   abbrev phrases : Bool
@@ -141,32 +141,32 @@ module _ (index : ℕ) (head entries items letters source : List ℕ) where
   abbrev track : Checked ScoreTrack
   track = track_given (given_of head entries items letters source)
 
-  told : (number place : ℕ) → track ≡ refused number place → Refused number index ≡ track_answer (told_at index track)
+  told : (why : Refusal) → track ≡ Err why → refused why.number index ≡ track_answer (told_at index track)
   unfolding track_answer told_at
-  told number place e = rw e
+  told why e = rw e
 
   module _ (fixed : Bool) (fits : fixed ≡ is_fine (fixed_given (part head 1 6))) where
-    pub track_fixed : not fixed ≡ true → Refused 8 index ≡ track_answer (told_at index (track_given (given_of head entries items letters source)))
+    pub track_fixed : not fixed ≡ true → refused 8 index ≡ track_answer (told_at index (track_given (given_of head entries items letters source)))
     unfolding track_given fixed_given ◌>>◌
-    track_fixed h = told 8 0 (rw (off_refused (flag_off fits h)))
+    track_fixed h = told (record { number = 8; place = 0 }) (rw (off_refused (flag_off fits h)))
       where
         off_refused : is_fine (fixed_given (part head 1 6)) ≡ false → fixed_given (part head 1 6) ≡ refused 8 0
         off_refused = fixed_off (part head 1 6)
 
-    module _ (seven : length head ≡ 7) (on : not fixed ≡ false) (answer : Wrote) (is : answer ≡ size_answer (items_given Score source items)) where
+    module _ (seven : length head ≡ 7) (on : not fixed ≡ false) (answer : Checked ℕ) (is : answer ≡ size_answer (items_given Score source items)) where
       held : fixed_given (part head 1 6) ≡ passed
       held = fixed_on (part head 1 6) (flag_on fits on)
 
-      pub track_items_refused : (number place : ℕ) → answer ≡ Refused number place
-          → Refused number index ≡ track_answer (told_at index (track_given (given_of head entries items letters source)))
+      pub track_items_refused : (why : Refusal) → answer ≡ Err why
+          → refused why.number index ≡ track_answer (told_at index (track_given (given_of head entries items letters source)))
       unfolding track_given ◌>>◌ ◌>>=◌
-      track_items_refused number place e = told number place (rw (held, items_refused (items_given Score source items) number place (sym is ∙ e)))
+      track_items_refused why e = told why (rw (held, items_refused (items_given Score source items) why (sym is ∙ e)))
 
-      module _ (list : List (Item Content)) (given : items_given Score source items ≡ fine list) (size : ℕ) (sized : size ≡ limited (length (bytes_of handy_phone list))) where
+      module _ (list : List (Item Content)) (given : items_given Score source items ≡ Ok list) (size : ℕ) (sized : size ≡ limited (length (bytes_of handy_phone list))) where
         abbrev made : List (Placed Entry) → ScoreTrack
         made placed = record { number = head ! 0; fixed = part head 1 6; entries = entries_in placed; items = list }
 
-        opened : track ≡ (entries_given phrases letters entries >>= λ placed. (points_of phrases (items_placed list) (length (bytes_of handy_phone list)) placed >> fine (made placed)))
+        opened : track ≡ (entries_given phrases letters entries >>= λ placed. (points_of phrases (items_placed list) (length (bytes_of handy_phone list)) placed >> Ok (made placed)))
         unfolding track_given ◌>>◌ ◌>>=◌
         opened = rw (held, given, phrased)
 
@@ -196,19 +196,19 @@ module _ (index : ℕ) (head entries items letters source : List ℕ) where
         unfolding seek_stage size_behind track_answer told_at ◌>>=◌ ◌>>◌
         behind stage e = go (entries_given phrases letters entries) refl
           where
-            ruled : (placed : List (Placed Entry)) → entries_given phrases letters entries ≡ fine placed → (q : Checked (Unit {0})) → rules_hold phrases (is_place items) placed ≡ q
+            ruled : (placed : List (Placed Entry)) → entries_given phrases letters entries ≡ Ok placed → (q : Checked (Unit {0})) → rules_hold phrases (is_place items) placed ≡ q
                 → size_behind index phrases size stage ≡ track_answer (told_at index track)
-            ruled placed f (refused number place) q = rw (← e, opened, f, ← rules_are Score source items list given phrases placed, q)
-            ruled placed f (fine u) q =
+            ruled placed f (Err why) q = rw (← e, opened, f, ← rules_are Score source items list given phrases placed, q)
+            ruled placed f (Ok u) q =
                 rw (← e, opened, f, ← rules_are Score source items list given phrases placed, q)
-                (ap Bytes (sums _ ∙ ap limited (sym (track_long placed))))
+                (ap (λ (n : ℕ). Ok n) (sums _ ∙ ap limited (sym (track_long placed))))
 
             go : (o : Checked (List (Placed Entry))) → entries_given phrases letters entries ≡ o → size_behind index phrases size stage ≡ track_answer (told_at index track)
-            go (refused number place) f = rw (← e, opened, f)
-            go (fine placed) f = ruled placed f (rules_hold phrases (is_place items) placed) refl
+            go (Err why) f = rw (← e, opened, f)
+            go (Ok placed) f = ruled placed f (rules_hold phrases (is_place items) placed) refl
 
-      module _ (size : ℕ) (sized : answer ≡ Bytes size) (told_entries : Told) (tells : Tells phrases letters entries source items told_entries) where
-        these : (list : List (Item Content)) × (items_given Score source items ≡ fine list) × (size ≡ limited (length (bytes_of handy_phone list)))
+      module _ (size : ℕ) (sized : answer ≡ Ok size) (told_entries : Told) (tells : Tells phrases letters entries source items told_entries) where
+        these : (list : List (Item Content)) × (items_given Score source items ≡ Ok list) × (size ≡ limited (length (bytes_of handy_phone list)))
         these = items_fine (items_given Score source items) size (sym is ∙ sized)
 
         fault_is : told_entries.fault ≡ fault_in (seek_stage phrases entries items letters)
@@ -219,24 +219,24 @@ module _ (index : ℕ) (head entries items letters source : List ℕ) where
         whole_is = behind these.0 these.1 size these.2
 
         pub track_entries_refused : (told_entries.fault ≡ 0 → ⊥)
-            → Refused told_entries.fault index ≡ track_answer (told_at index (track_given (given_of head entries items letters source)))
+            → refused told_entries.fault index ≡ track_answer (told_at index (track_given (given_of head entries items letters source)))
         unfolding fault_in size_behind
         track_entries_refused h = go (seek_stage phrases entries items letters) refl
           where
             go : (stage : Checked (List (Placed Entry))) → seek_stage phrases entries items letters ≡ stage
-                → Refused told_entries.fault index ≡ track_answer (told_at index (track_given (given_of head entries items letters source)))
-            go (fine placed) e = absurd (h (fault_is ∙ ap fault_in e))
-            go (refused number place) e = ap (λ (n : ℕ). Refused n index) (fault_is ∙ ap fault_in e) ∙ whole_is (refused number place) e
+                → refused told_entries.fault index ≡ track_answer (told_at index (track_given (given_of head entries items letters source)))
+            go (Ok placed) e = absurd (h (fault_is ∙ ap fault_in e))
+            go (Err why) e = ap (λ (n : ℕ). refused n index) (fault_is ∙ ap fault_in e) ∙ whole_is (Err why) e
 
         pub track_sized : (whole : ℕ) → told_entries.fault ≡ 0 → whole ≡ limited (seek_size (head ! 2 ≡? 1) letters (rows_in entries) + size + 22)
-            → Bytes whole ≡ track_answer (told_at index (track_given (given_of head entries items letters source)))
+            → Ok whole ≡ track_answer (told_at index (track_given (given_of head entries items letters source)))
         unfolding fault_in size_behind
         track_sized whole h sum = go (seek_stage phrases entries items letters) refl (stage_numbered phrases entries items letters)
           where
             go : (stage : Checked (List (Placed Entry))) → seek_stage phrases entries items letters ≡ stage → Numbered stage
-                → Bytes whole ≡ track_answer (told_at index (track_given (given_of head entries items letters source)))
-            go (refused number place) e k = absurd (omega (arith, fault_is ∙ ap fault_in e))
-            go (fine placed) e k =
-                ap Bytes (sum ∙ ap (λ (n : ℕ). limited (n + size + 22)) (stage_sized phrases entries items letters placed e)) ∙ whole_is (fine placed) e
+                → Ok whole ≡ track_answer (told_at index (track_given (given_of head entries items letters source)))
+            go (Err why) e k = absurd (omega (arith, fault_is ∙ ap fault_in e))
+            go (Ok placed) e k =
+                ap (λ (n : ℕ). Ok n) (sum ∙ ap (λ (n : ℕ). limited (n + size + 22)) (stage_sized phrases entries items letters placed e)) ∙ whole_is (Ok placed) e
 
 pub ruleset track_checks = (track_fixed, track_items_refused, track_entries_refused, track_sized)

@@ -7,7 +7,8 @@ use lib.ListN.{length, length-append, drop}
 use lib.Seq.{sets, get_or-take, get_or-drop}
 use native.Mathlib.Omega.{arith}
 use borrow.Author.Tests.{eq-eqb, ne_eqb}
-use Rattle.model.specs.Words.{when◌then◌else◌, ◌and◌, ◌≡?◌, Placed, Checked.fine}
+use Rattle.model.specs.Words.{when◌then◌else◌, ◌and◌, ◌≡?◌, Placed}
+use Rattle.std.specs.Prelude.{Ok}
 use Rattle.model.specs.Bytes.{◌!◌, part, MTR, Mtsq}
 use Rattle.model.specs.ChunkBytes.{number_bytes, chunk_bytes}
 use Rattle.model.specs.Item.{Item, is_fine, found}
@@ -142,9 +143,9 @@ module _ (head entries items letters source : List ℕ) (given : is_fine (track_
   record Said : Type 0 where
     list : List (Item Content)
     placed : List (Placed Entry)
-    items_are : items_given Score source items ≡ fine list
-    entries_are : entries_given phrases letters entries ≡ fine placed
-    is : track_given (given_of head entries items letters source) ≡ fine (record { number = head ! 0; fixed = fixed; entries = entries_in placed; items = list })
+    items_are : items_given Score source items ≡ Ok list
+    entries_are : entries_given phrases letters entries ≡ Ok placed
+    is : track_given (given_of head entries items letters source) ≡ Ok (record { number = head ! 0; fixed = fixed; entries = entries_in placed; items = list })
 
   said : Said
   unfolding track_given

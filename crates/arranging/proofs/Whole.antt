@@ -6,14 +6,13 @@ use lib.ListN.{length, take, length-append, length-take}
 use lib.Seq.{sets, sets-eq, take_at}
 use native.Mathlib.Omega.{arith}
 use borrow.Author.Tests.{lt-ltb, le-ltb}
-use Rattle.model.specs.Words.{when◌then◌else◌, ◌or◌, Checked, Checked.fine, Checked.refused, ◌>>◌}
+use Rattle.model.specs.Words.{when◌then◌else◌, ◌or◌, Checked, ◌>>◌, refused}
+use Rattle.std.specs.Prelude.{Ok}
 use Rattle.model.specs.Bytes.{part, MMMD, CNTI}
 use Rattle.model.specs.CheckCode.{check_code}
 use Rattle.model.specs.ChunkBytes.{number_bytes, chunk_bytes, with_check_code}
 use Rattle.model.specs.Tables.{given_in, tracks_from}
 use Rattle.model.specs.Answer.{within_room, memory_after, write_answer, write_room}
-use Rattle.model.specs.declared.Wrote.{Wrote}
-use Rattle.model.specs.declared.Wrote.TheVariants.{Bytes, Refused}
 use Rattle.model.proofs.Stores.{sets_append}
 use Rattle.writing.specs.Parts.{limited}
 use Rattle.entries.proofs.NumberBytes.{number_bytes_length}
@@ -125,7 +124,7 @@ module _ (numbers bytes : List ℕ) (long : 5 ≤ length bytes) (count size : �
   outcome = sized_of numbers bytes (length l)
 
   module _ (over : sized_of numbers bytes (length l) ≡ refused 24 0) where
-    over_answer : Refused 24 0 ≡ write_answer (sized_of numbers bytes (length l))
+    over_answer : refused 24 0 ≡ write_answer (sized_of numbers bytes (length l))
     unfolding write_answer
     over_answer = rw over
 
@@ -160,19 +159,19 @@ module _ (numbers bytes : List ℕ) (long : 5 ≤ length bytes) (count size : �
       let past : length l < length (whole_bytes (take 5 bytes) tracks) = omega (arith, n) in
       within few ∙ simp (le-ltb 65536 _ within_most, lt-ltb (length l) _ past)
 
-  pub many_answer : (z : Wrote) → 16 < count → z ≡ Refused 24 0 → z ≡ write_answer (sized_of numbers bytes (length l))
+  pub many_answer : (z : Checked ℕ) → 16 < count → z ≡ refused 24 0 → z ≡ write_answer (sized_of numbers bytes (length l))
   many_answer z h e = e ∙ over_answer (too_many h)
 
   pub many_kept : 16 < count → l ≡ write_room l (sized_of numbers bytes (length l))
   many_kept h = over_kept (too_many h)
 
-  pub long_answer : (z : Wrote) → count ≤ 16 → 65513 < size → z ≡ Refused 24 0 → z ≡ write_answer (sized_of numbers bytes (length l))
+  pub long_answer : (z : Checked ℕ) → count ≤ 16 → 65513 < size → z ≡ refused 24 0 → z ≡ write_answer (sized_of numbers bytes (length l))
   long_answer z few h e = e ∙ over_answer (too_long few h)
 
   pub long_kept : count ≤ 16 → 65513 < size → l ≡ write_room l (sized_of numbers bytes (length l))
   long_kept few h = over_kept (too_long few h)
 
-  pub full_answer : (z : Wrote) → count ≤ 16 → size ≤ 65513 → length l < size + 23 → z ≡ Refused 24 0 → z ≡ write_answer (sized_of numbers bytes (length l))
+  pub full_answer : (z : Checked ℕ) → count ≤ 16 → size ≤ 65513 → length l < size + 23 → z ≡ refused 24 0 → z ≡ write_answer (sized_of numbers bytes (length l))
   full_answer z few small h e = e ∙ over_answer (no_room few small h)
 
   pub full_kept : count ≤ 16 → size ≤ 65513 → length l < size + 23 → l ≡ write_room l (sized_of numbers bytes (length l))
@@ -182,7 +181,7 @@ module _ (numbers bytes : List ℕ) (long : 5 ≤ length bytes) (count size : �
     pub whole_sized : size ≡ length (tracks_given_bytes (tracks_from 0 (given_in numbers bytes)))
     whole_sized = exact small
 
-    is_fine_lem : outcome ≡ fine (whole_bytes (take 5 bytes) tracks)
+    is_fine_lem : outcome ≡ Ok (whole_bytes (take 5 bytes) tracks)
     unfolding within_room when◌then◌else◌ ◌or◌
     is_fine_lem =
         let e = exact small in
@@ -191,11 +190,11 @@ module _ (numbers bytes : List ℕ) (long : 5 ≤ length bytes) (count size : �
         let fits : length (whole_bytes (take 5 bytes) tracks) ≤ length l = omega (arith, n) in
         within few ∙ simp (le-ltb 65536 _ within_most, le-ltb (length l) _ fits)
 
-    pub whole_answer : (n : ℕ) → n ≡ 23 + size → Bytes n ≡ write_answer (sized_of numbers bytes (length l))
+    pub whole_answer : (n : ℕ) → n ≡ 23 + size → Ok n ≡ write_answer (sized_of numbers bytes (length l))
     unfolding write_answer
     whole_answer n e =
         let long_so : n ≡ length (whole_bytes (take 5 bytes) tracks) = e ∙ ap (λ (k : ℕ). 23 + k) (exact small) ∙ sym (whole_length bytes tracks long) in
-        rw is_fine_lem (ap Bytes long_so)
+        rw is_fine_lem (ap (λ (k : ℕ). Ok k) long_so)
 
     pub whole_written : (m : List ℕ) → m ≡ sets l 0 (whole_bytes (take 5 bytes) (tracks_given_bytes (tracks_from 0 (given_in numbers bytes))))
         → m ≡ write_room l (sized_of numbers bytes (length l))

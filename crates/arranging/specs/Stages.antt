@@ -1,6 +1,6 @@
 -- The stages of a write: which tracks there are (6, 7), what one comes to, what all of them do, and how many bytes that takes.
-use Rattle.std.specs.Prelude.{ℕ, ◌+◌, List, [], ◌++◌, length, take}
-use Rattle.model.specs.Words.{when◌then◌else◌, ◌<?◌, ◌≡?◌, Checked, Checked.fine, Checked.refused, passed, ◌>>◌}
+use Rattle.std.specs.Prelude.{ℕ, ◌+◌, List, [], ◌++◌, length, take, Ok, Err}
+use Rattle.model.specs.Words.{when◌then◌else◌, ◌<?◌, ◌≡?◌, Checked, passed, ◌>>◌, refused}
 use Rattle.model.specs.Bytes.{◌!◌, part, MMMD, CNTI, Mtsq}
 use Rattle.model.specs.Item.{found}
 use Rattle.model.specs.Track.{point_width}
@@ -11,10 +11,6 @@ use Rattle.model.specs.Arrangement.{ScoreTrack, seek_chunk, track_bytes, tracks_
 use Rattle.model.specs.Tables.{Given, given_in, once_from, tracks_from}
 use Rattle.model.specs.Answer.{within_room}
 use Rattle.model.specs.declared.Voice.TheVariants.{Score}
-use Rattle.model.specs.declared.Counted.{Counted}
-use Rattle.model.specs.declared.Counted.TheVariants as counted
-use Rattle.model.specs.declared.Wrote.{Wrote}
-use Rattle.model.specs.declared.Wrote.TheVariants as wrote
 use Rattle.writing.specs.Parts.{limited, list_bytes}
 use Rattle.entries.specs.Rows.{entries_in}
 
@@ -22,29 +18,25 @@ use Rattle.entries.specs.Rows.{entries_in}
 unfoldable pub how_many : List Given → Checked ℕ
 how_many given = do
   once_from [] 0 given
-  when length given ≡? 0 then refused 7 0 else fine (length given)
-
-unfoldable pub count_answer : Checked ℕ → Counted
-count_answer (fine count) = counted.Rows count
-count_answer (refused number place) = counted.Refused number place
+  when length given ≡? 0 then refused 7 0 else Ok (length given)
 
 -- one track and all tracks, as many bytes as they take
-unfoldable pub track_answer : Checked ScoreTrack → Wrote
-track_answer (fine track) = wrote.Bytes (limited (length (track_bytes track)))
-track_answer (refused number place) = wrote.Refused number place
+unfoldable pub track_answer : Checked ScoreTrack → Checked ℕ
+track_answer (Ok track) = Ok (limited (length (track_bytes track)))
+track_answer (Err why) = Err why
 
-unfoldable pub tracks_answer : Checked (List ScoreTrack) → Wrote
-tracks_answer (fine tracks) = wrote.Bytes (limited (length (tracks_bytes tracks)))
-tracks_answer (refused number place) = wrote.Refused number place
+unfoldable pub tracks_answer : Checked (List ScoreTrack) → Checked ℕ
+tracks_answer (Ok tracks) = Ok (limited (length (tracks_bytes tracks)))
+tracks_answer (Err why) = Err why
 
 -- the bytes of tracks that are given, none where one is refused
 unfoldable pub track_given_bytes : Checked ScoreTrack → List ℕ
-track_given_bytes (fine track) = track_bytes track
-track_given_bytes (refused number place) = []
+track_given_bytes (Ok track) = track_bytes track
+track_given_bytes (Err why) = []
 
 unfoldable pub tracks_given_bytes : Checked (List ScoreTrack) → List ℕ
-tracks_given_bytes (fine tracks) = tracks_bytes tracks
-tracks_given_bytes (refused number place) = []
+tracks_given_bytes (Ok tracks) = tracks_bytes tracks
+tracks_given_bytes (Err why) = []
 
 -- a track's parts as they are lent: its number and fixed bytes in one stretch
 abbrev pub given_of : List ℕ → List ℕ → List ℕ → List ℕ → List ℕ → Given

@@ -7,36 +7,30 @@ ghost use Rattle.arranging.specs.Stages.{tracks_answer, tracks_given_bytes};
 
 use super::tables::{find_stretches, further};
 use super::track::{check_at, write_at};
-use model::Wrote;
+use model::Refusal;
 use writing::limited_sum;
 
 // How many bytes they take, or what is wrong with the first that is at fault.
-pub fn check_tracks(numbers: &[u32], bytes: &[u8], count: usize) -> Wrote
+#[tactic(auto, using(crate::proofs::Checking::checks))]
+pub fn check_tracks(numbers: &[u32], bytes: &[u8], count: usize) -> Result<usize, Refusal>
     requires { count ≡ length (given_in numbers.now bytes.now) }
     ensures { result ≡ tracks_answer (tracks_from 0 (given_in numbers.now bytes.now)) }
 {
     let mut p: usize = 0;
     let mut q = further(0, 5, bytes.len());
     let mut size: usize = 0;
-    let mut i: usize = 0;
-    while i < count {
+    for i in 0..count {
         let parts = find_stretches(numbers, p, bytes, q);
-        match check_at(i, numbers, p, bytes, q, parts) {
-            Wrote::Refused { number, place } => {
-                return Wrote::Refused { number, place };
-            }
-            Wrote::Bytes { length } => {
-                size = limited_sum(size, length);
-            }
-        }
+        let length = check_at(i, numbers, p, bytes, q, parts)?;
+        size = limited_sum(size, length);
         p = parts.numbers;
         q = parts.bytes;
-        i += 1;
     }
-    Wrote::Bytes { length: size }
+    Ok(size)
 }
 
 // Tracks that can be written, at a place with room for them. Returns the place after them.
+#[tactic(auto, using(crate::proofs::Filling::fills))]
 pub fn write_tracks(numbers: &[u32], bytes: &[u8], count: usize, out: &mut [u8], at: usize) -> usize
     requires count_value { count ≡ length (given_in numbers.now bytes.now) }
     requires bytes_value { is_fine (tracks_from 0 (given_in numbers.now bytes.now)) ≡ true }
@@ -48,13 +42,11 @@ pub fn write_tracks(numbers: &[u32], bytes: &[u8], count: usize, out: &mut [u8],
     let mut p: usize = 0;
     let mut q = further(0, 5, bytes.len());
     let mut next = at;
-    let mut i: usize = 0;
-    while i < count {
+    for _i in 0..count {
         let parts = find_stretches(numbers, p, bytes, q);
         next = write_at(numbers, p, bytes, q, parts, out, next);
         p = parts.numbers;
         q = parts.bytes;
-        i += 1;
     }
     next
 }

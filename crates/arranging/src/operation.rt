@@ -10,8 +10,8 @@ ghost use Rattle.arranging.specs.Stages.{tracks_given_bytes, bare_bytes, whole_b
 
 use super::all::{check_tracks, write_tracks};
 use super::tables::count_tracks;
-use entries::{write_header, write_number_2};
-use model::{Counted, Wrote};
+use entries::{write_header, write_number};
+use model::{Refusal, refused};
 use writing::copy_part;
 
 // All but the check code: the file's header, the contents chunk, the tracks, which take so many bytes. Returns the place after them.
@@ -50,11 +50,18 @@ fn write_whole(numbers: &[u32], bytes: &[u8], count: usize, size: usize, out: &m
 {
     let end = write_bare(numbers, bytes, count, size, out);
     let code = code_over(out, end);
-    write_number_2(out, end, code)
+    write_number::<2>(out, end, code as u32)
 }
 
 // The tracks are so many, and take so many bytes.
-fn write_sized(numbers: &[u32], bytes: &[u8], count: usize, size: usize, out: &mut [u8]) -> Wrote
+#[tactic(auto, using(crate::proofs::Whole::sized_answers))]
+fn write_sized(
+    numbers: &[u32],
+    bytes: &[u8],
+    count: usize,
+    size: usize,
+    out: &mut [u8],
+) -> Result<usize, Refusal>
     requires in_bounds { 5 ≤ length bytes.now }
     requires count_value { count ≡ length (given_in numbers.now bytes.now) }
     requires bytes_value { is_fine (tracks_from 0 (given_in numbers.now bytes.now)) ≡ true }
@@ -63,37 +70,23 @@ fn write_sized(numbers: &[u32], bytes: &[u8], count: usize, size: usize, out: &m
     ensures out_after { out.new ≡ write_room out.old (sized_of numbers.now bytes.now (length out.old)) }
 {
     if 16 < count {
-        return full();
+        return refused(24, 0);
     }
     if 65513 < size {
-        return full();
+        return refused(24, 0);
     }
     if out.len() < size + 23 {
-        return full();
+        return refused(24, 0);
     }
-    Wrote::Bytes {
-        length: write_whole(numbers, bytes, count, size, out),
-    }
+    Ok(write_whole(numbers, bytes, count, size, out))
 }
 
-fn full() -> Wrote
-    ensures { result ≡ Wrote.Refused 24 0 }
-{
-    Wrote::Refused {
-        number: 24,
-        place: 0,
-    }
-}
-
-pub fn write_file(numbers: &[u32], bytes: &[u8], out: &mut [u8]) -> Wrote
+#[tactic(auto, using(crate::proofs::Operations::written))]
+pub fn write_file(numbers: &[u32], bytes: &[u8], out: &mut [u8]) -> Result<usize, Refusal>
     ensures value { result ≡ write_answer (write_of numbers.now bytes.now (length out.old)) }
     ensures out_after { out.new ≡ write_room out.old (write_of numbers.now bytes.now (length out.old)) }
 {
-    match count_tracks(numbers, bytes) {
-        Counted::Refused { number, place } => Wrote::Refused { number, place },
-        Counted::Rows { count } => match check_tracks(numbers, bytes, count) {
-            Wrote::Refused { number, place } => Wrote::Refused { number, place },
-            Wrote::Bytes { length } => write_sized(numbers, bytes, count, length, out),
-        },
-    }
+    let count = count_tracks(numbers, bytes)?;
+    let length = check_tracks(numbers, bytes, count)?;
+    write_sized(numbers, bytes, count, length, out)
 }

@@ -1,11 +1,11 @@
 // The two tables track by track.
-ghost use Rattle.std.specs.Prelude.{◌≡◌, ◌+◌, ◌≤◌, ◌<◌, min, length};
-ghost use Rattle.model.specs.Words.{when◌then◌else◌, ◌≡?◌};
+ghost use Rattle.std.specs.Prelude.{◌≡◌, ◌+◌, ◌≤◌, ◌<◌, min, length, Ok};
+ghost use Rattle.model.specs.Words.{when◌then◌else◌, ◌≡?◌, refused};
 ghost use Rattle.model.specs.Tables.{given_in};
 ghost use Rattle.arranging.specs.Apart.{Apart};
-ghost use Rattle.arranging.specs.Stages.{how_many, count_answer};
+ghost use Rattle.arranging.specs.Stages.{how_many};
 
-use model::Counted;
+use model::{Refusal, refused};
 
 // Where the parts of a track stand: its items behind its entries, its source behind its letters; and where its numbers and its bytes end.
 #[derive(Clone, Copy)]
@@ -55,21 +55,20 @@ pub fn find_stretches(numbers: &[u32], p: usize, bytes: &[u8], q: usize) -> Stre
     }
 }
 
-fn counted(count: usize) -> Counted
-    ensures { result ≡ (when count ≡? 0 then Counted.Refused 7 0 else Counted.Rows count) }
+#[tactic(auto, using(model::proofs::Tests::tests))]
+fn counted(count: usize) -> Result<usize, Refusal>
+    ensures { result ≡ (when count ≡? 0 then refused 7 0 else Ok count) }
 {
     if count == 0 {
-        return Counted::Refused {
-            number: 7,
-            place: 0,
-        };
+        return refused(7, 0);
     }
-    Counted::Rows { count }
+    Ok(count)
 }
 
 // How many tracks there are: none is 7, and one whose number stood before is 6.
-pub fn count_tracks(numbers: &[u32], bytes: &[u8]) -> Counted
-    ensures { result ≡ count_answer (how_many (given_in numbers.now bytes.now)) }
+#[tactic(auto, using(crate::proofs::Counting::counts))]
+pub fn count_tracks(numbers: &[u32], bytes: &[u8]) -> Result<usize, Refusal>
+    ensures { result ≡ how_many (given_in numbers.now bytes.now) }
 {
     let mut seen = [false; 256];
     let mut count: usize = 0;
@@ -81,10 +80,7 @@ pub fn count_tracks(numbers: &[u32], bytes: &[u8]) -> Counted
         }
         let number = slot_of(bytes[q]);
         if seen[number] {
-            return Counted::Refused {
-                number: 6,
-                place: count,
-            };
+            return refused(6, count);
         }
         seen[number] = true;
         let parts = find_stretches(numbers, p, bytes, q);

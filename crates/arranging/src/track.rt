@@ -14,11 +14,12 @@ ghost use Rattle.arranging.specs.Apart.{given_at, Apart};
 ghost use Rattle.arranging.specs.Stages.{given_of, track_answer, track_given_bytes, seek_of, inside_of};
 
 use super::tables::Stretches;
-use entries::{advance, judge_entries, seek_size, write_header};
-use model::{Voice, Wrote};
+use entries::{Told, advance, judge_entries, seek_size, write_header};
+use model::{Refusal, Voice, refused};
 use writing::{check_from, copy_part, limited_sum, write_list};
 
 // The fixed bytes of a score track of type 0x00.
+#[tactic(auto, using(crate::proofs::TrackStores::fixed_bytes))]
 fn has_fixed(head: &[u8]) -> bool
     requires { length head.now ≡ 7 }
     ensures { result ≡ is_fine (fixed_given (part head.now 1 6)) }
@@ -30,6 +31,7 @@ fn has_fixed(head: &[u8]) -> bool
 }
 
 // How many bytes a track takes whose items take so many.
+#[tactic(auto, using(crate::proofs::TrackChecks::track_sum))]
 fn track_size(phrases: bool, letters: &[u8], entries: &[u32], body: usize) -> usize
     ensures { result ≡ limited (seek_size phrases letters.now (rows_in entries.now) + body + 22) }
 {
@@ -46,37 +48,23 @@ fn check_track(
     items: &[u32],
     letters: &[u8],
     source: &[u8],
-) -> Wrote
+) -> Result<usize, Refusal>
     requires { length head.now ≡ 7 }
     ensures { result ≡ track_answer (told_at index (track_given (given_of head.now entries.now items.now letters.now source.now))) }
 {
     if !has_fixed(head) {
-        return Wrote::Refused {
-            number: 8,
-            place: index,
-        };
+        return refused(8, index);
     }
     let phrases = head[2] == 1;
-    let told = judge_entries(phrases, letters, entries, source, items);
-    let fault = told.fault;
-    let reached = told.front;
+    let Told {
+        fault,
+        front: reached,
+    } = judge_entries(phrases, letters, entries, source, items);
     let front = advance(source, items, reached, 0xFFFFFFFF);
     match check_from(Voice::Score, source, items, front.index, front.place) {
-        Wrote::Refused { number, place: _ } => Wrote::Refused {
-            number,
-            place: index,
-        },
-        Wrote::Bytes { length } => {
-            if fault != 0 {
-                return Wrote::Refused {
-                    number: fault,
-                    place: index,
-                };
-            }
-            Wrote::Bytes {
-                length: track_size(phrases, letters, entries, length),
-            }
-        }
+        Err(why) => refused(why.number, index),
+        Ok(_) if fault != 0 => refused(fault, index),
+        Ok(length) => Ok(track_size(phrases, letters, entries, length)),
     }
 }
 
@@ -88,7 +76,7 @@ pub fn check_at(
     bytes: &[u8],
     q: usize,
     parts: Stretches,
-) -> Wrote
+) -> Result<usize, Refusal>
     requires { Apart numbers.now bytes.now p q parts }
     ensures { result ≡ track_answer (told_at index (track_given (given_at numbers.now bytes.now p q))) }
 {

@@ -7,12 +7,11 @@ use native.Mathlib.Nat.{one-mul, pow-suc, zero-add, add-zero, add-suc, suc-add}
 use native.Mathlib.Decide.{dec_lt}
 use native.Mathlib.Omega.{arith}
 use lib.Bits.{bit_xor, xor_shifted}
-use lib.ListN.{length, length-append, length-map, get_or-append}
+use lib.ListN.{length, length-append, length-map, get_or, get_or-append}
 use lib.Seq.{get_or-append-add}
 use Rattle.model.specs.Words.{when◌then◌else◌}
 use Rattle.model.specs.Bytes.{◌!◌}
 use Rattle.model.specs.CheckCode.{bit_step, byte_step, remainder_from}
-use Rattle.checkcode.specs.Remainders.{Remainders}
 use Rattle.checkcode.proofs.Linear.{zeros, left, left_linear}
 
 -- what each number of so many bits leaves that so many zero bytes follow
@@ -21,9 +20,9 @@ grown follow zero = 0 ∷ []
 grown follow (suc bits) = let half = grown follow bits in half ++ map (bit_xor (left (2 ^ bits) follow)) half
 
 -- so many tables, the first with so many zero bytes that follow
-unfoldable pub tables_from : ℕ → ℕ → List ℕ
+unfoldable pub tables_from : ℕ → ℕ → List (List ℕ)
 tables_from follow zero = []
-tables_from follow (suc more) = grown follow 8 ++ tables_from (suc follow) more
+tables_from follow (suc more) = grown follow 8 ∷ tables_from (suc follow) more
 
 nothing_left : (n : ℕ) → remainder_from 0 (zeros n) ≡ 0
 unfolding remainder_from byte_step bit_step when◌then◌else◌
@@ -71,21 +70,13 @@ grown_at follow (suc bits) byte h k =
     joined : (d : ℕ) → d < 2 ^ bits → bit_xor (2 ^ bits) d ≡ 2 ^ bits + d
     joined d l = ap (λ (n : ℕ). bit_xor n d) (sym (one-mul (2 ^ bits))) ∙ xor_shifted 1 bits d l ∙ ap (λ (n : ℕ). n + d) (one-mul (2 ^ bits))
 
-tables_at : (follow more table byte : ℕ) → table < more → byte < 256 → tables_from follow more ! (table * 256 + byte) ≡ left byte (follow + table)
+tables_at : (follow more table byte : ℕ) → table < more → byte < 256 → get_or (tables_from follow more) table [] ! byte ≡ left byte (follow + table)
 unfolding tables_from
 tables_at follow zero table byte t b = absurd (omega arith)
-tables_at follow (suc more) zero byte t b =
-    ap (◌!◌ (tables_from follow (suc more))) (omega arith)
-    ∙ get_or-append (grown follow 8) _ 0 byte (omega (arith, grown_length follow 8))
-    ∙ grown_at follow 8 byte (omega arith) b
-    ∙ ap (left byte) (sym (add-zero follow))
+tables_at follow (suc more) zero byte t b = grown_at follow 8 byte (omega arith) b ∙ ap (left byte) (sym (add-zero follow))
 tables_at follow (suc more) (suc table) byte t b =
-    ap (◌!◌ (tables_from follow (suc more))) (omega (arith, grown_length follow 8))
-    ∙ get_or-append-add (grown follow 8) _ (table * 256 + byte) 0
-    ∙ tables_at (suc follow) more table byte (omega arith) b
-    ∙ ap (left byte) (suc-add follow table ∙ sym (add-suc follow table))
+    tables_at (suc follow) more table byte (omega arith) b ∙ ap (left byte) (suc-add follow table ∙ sym (add-suc follow table))
 
-pub remainders : (tables : List ℕ) → tables ≡ tables_from 0 8 → Remainders tables
-unfolding Remainders
-remainders tables e table byte t b =
-    ap (λ (l : List ℕ). l ! (table * 256 + byte)) e ∙ tables_at 0 8 table byte t b ∙ ap (left byte) (zero-add table)
+pub entry : (tables : List (List ℕ)) (table byte : ℕ) → tables ≡ tables_from 0 8 → table < 8 → byte < 256 → get_or tables table [] ! byte ≡ left byte table
+entry tables table byte e t b =
+    ap (λ (l : List (List ℕ)). get_or l table [] ! byte) e ∙ tables_at 0 8 table byte t b ∙ ap (left byte) (zero-add table)

@@ -1,13 +1,13 @@
 -- What the code computes by the tables: a byte's step, and eight of them.
-use Prim.Native.Nat.{ℕ, zero, suc, ◌+◌, ◌*◌, ◌/◌, ◌%◌, ◌<◌, ◌≤◌}
+use Prim.Native.Nat.{ℕ, zero, suc, ◌+◌, ◌*◌, ◌/◌, ◌%◌, ◌<◌}
 use mathlib.Core.List.{List, [], ◌∷◌}
 use mathlib.Core.Path.{◌≡◌, refl, sym, ap, ap₂, ◌∙◌}
-use native.Mathlib.Nat.{add-zero, add-suc, div-add-mod'}
+use native.Mathlib.Nat.{add-zero, div-add-mod'}
 use native.Mathlib.Omega.{arith}
 use lib.Bits.{bit_xor, xor_lt, xor_block, xor_shifted, xor_zero_r}
-use lib.ListN.{length, take, length-replicate}
+use lib.ListN.{length, drop, drop_of_length-le, length-replicate}
 use lib.Seq.{drop-cons}
-use Rattle.model.specs.Bytes.{◌!◌, part}
+use Rattle.model.specs.Bytes.{◌!◌}
 use Rattle.model.specs.CheckCode.{bit_step, byte_step, remainder_from}
 use Rattle.checkcode.proofs.Linear.{xor_assoc, moved_up, low_bit_step, steps, steps_linear, byte_linear, byte_small, zeros, zeros_linear, left}
 
@@ -121,47 +121,41 @@ taken_in r first second bytes h k =
     ap (λ (x : ℕ). remainder_from x bytes)
     (sym (high_taken_in (byte_step 0 (bit_xor (r / 256) first)) (r % 256) second) ∙ ap (λ (x : ℕ). byte_step x second) (step_by_table r first h k))
 
--- so many bytes from a place on, one by one
-abbrev listed : List ℕ → ℕ → ℕ → ℕ → List ℕ
-listed s at i zero = []
-listed s at i (suc n) = s ! (at + i) ∷ listed s at (suc i) n
+-- the last so many bytes, one by one
+abbrev listed : List ℕ → ℕ → ℕ → List ℕ
+listed s i zero = []
+listed s i (suc n) = s ! i ∷ listed s (suc i) n
 
-lists : (s : List ℕ) (at i n : ℕ) → at + i + n ≤ length s → part s (at + i) n ≡ listed s at i n
-lists s at i zero h = refl
-lists s at i (suc n) h =
-    ap (take (suc n)) (drop-cons s (at + i) 0 (omega arith))
-    ∙ ap (λ (k : ℕ). s ! (at + i) ∷ part s k n) (sym (add-suc at i))
-    ∙ ap (λ (rest : List ℕ). s ! (at + i) ∷ rest) (lists s at (suc i) n (omega arith))
+lists : (s : List ℕ) (i n : ℕ) → length s ≡ i + n → drop i s ≡ listed s i n
+lists s i zero h = drop_of_length-le s {i = i} (omega arith)
+lists s i (suc n) h = drop-cons s i 0 (omega arith) ∙ ap (λ (rest : List ℕ). s ! i ∷ rest) (lists s (suc i) n (omega arith))
 
 four_small : (a b c d : ℕ) → a < 256 → b < 256 → c < 256 → d < 256 → remainder_from 0 (a ∷ b ∷ c ∷ d ∷ []) < 0x10000
 unfolding remainder_from
 four_small a b c d ha hb hc hd = byte_small _ d (byte_small _ c (byte_small _ b (byte_small 0 a (omega arith) ha) hb) hc) hd
 
 pub eight_by_tables :
-    {x y : ℕ} (s : List ℕ) (at r : ℕ)
-    → at + 8 ≤ length s
+    {x y : ℕ} (s : List ℕ) (r : ℕ)
+    → length s ≡ 8
     → ((k : ℕ) → s ! k < 256)
     → r < 0x10000
-    → x ≡ remainder_from 0 (bit_xor (r / 256) (s ! at) ∷ bit_xor (r % 256) (s ! (at + 1)) ∷ s ! (at + 2) ∷ s ! (at + 3) ∷ zeros 4)
-    → y ≡ remainder_from 0 (s ! (at + 4) ∷ s ! (at + 5) ∷ s ! (at + 6) ∷ s ! (at + 7) ∷ [])
-    → bit_xor x y ≡ remainder_from r (part s at 8)
+    → x ≡ remainder_from 0 (bit_xor (r / 256) (s ! 0) ∷ bit_xor (r % 256) (s ! 1) ∷ s ! 2 ∷ s ! 3 ∷ zeros 4)
+    → y ≡ remainder_from 0 (s ! 4 ∷ s ! 5 ∷ s ! 6 ∷ s ! 7 ∷ [])
+    → bit_xor x y ≡ remainder_from r s
 unfolding remainder_from
-eight_by_tables s at r fits small h hx hy =
+eight_by_tables s r size small h hx hy =
     ap₂ bit_xor hx hy
-    ∙ sym (apart (remainder_from 0 (first ∷ second ∷ s ! (at + 2) ∷ s ! (at + 3) ∷ [])) (listed s at 4 4) four (small (at + 4), (small (at + 5), (small (at + 6), (small (at + 7), tt)))))
-    ∙ taken_in r (s ! at) (s ! (at + 1)) (listed s at 2 6) h (small at)
-    ∙ ap (remainder_from r) (sym whole)
+    ∙ sym (apart (remainder_from 0 (first ∷ second ∷ s ! 2 ∷ s ! 3 ∷ [])) (listed s 4 4) four (small 4, (small 5, (small 6, (small 7, tt)))))
+    ∙ taken_in r (s ! 0) (s ! 1) (listed s 2 6) h (small 0)
+    ∙ ap (remainder_from r) (sym (lists s 0 8 size))
   where
     first : ℕ
-    first = bit_xor (r / 256) (s ! at)
+    first = bit_xor (r / 256) (s ! 0)
 
     second : ℕ
-    second = bit_xor (r % 256) (s ! (at + 1))
+    second = bit_xor (r % 256) (s ! 1)
 
-    four : remainder_from 0 (first ∷ second ∷ s ! (at + 2) ∷ s ! (at + 3) ∷ []) < 0x10000
+    four : remainder_from 0 (first ∷ second ∷ s ! 2 ∷ s ! 3 ∷ []) < 0x10000
     four =
-        four_small first second (s ! (at + 2)) (s ! (at + 3)) (xor_lt 8 (r / 256) (s ! at) (omega arith) (small at))
-        (xor_lt 8 (r % 256) (s ! (at + 1)) (omega arith) (small (at + 1))) (small (at + 2)) (small (at + 3))
-
-    whole : part s at 8 ≡ s ! at ∷ listed s at 1 7
-    whole = ap (λ (k : ℕ). part s k 8) (sym (add-zero at)) ∙ lists s at 0 8 (omega arith) ∙ ap (λ (k : ℕ). s ! k ∷ listed s at 1 7) (add-zero at)
+        four_small first second (s ! 2) (s ! 3) (xor_lt 8 (r / 256) (s ! 0) (omega arith) (small 0))
+        (xor_lt 8 (r % 256) (s ! 1) (omega arith) (small 1)) (small 2) (small 3)

@@ -6,7 +6,8 @@ use mathlib.Core.Path.{◌≡◌, refl, sym, ◌∙◌, ap, subst}
 use lib.ListN.{length, get_or, set, length-set, replicate, length-replicate}
 use native.Mathlib.Omega.{arith}
 use borrow.Author.Tests.{lt-ltb, le-ltb}
-use Rattle.model.specs.Words.{◌<?◌, any, Placed, Checked, Checked.fine, Checked.refused}
+use Rattle.model.specs.Words.{◌<?◌, any, Placed, Checked}
+use Rattle.std.specs.Prelude.{Ok, Err}
 use Rattle.model.specs.Item.{is_fine}
 use Rattle.model.specs.Seek.{Entry, rank}
 use Rattle.model.specs.SeekBytes.{entries_given}
@@ -61,14 +62,14 @@ module _ (phrases : Bool) (letters numbers : List ℕ) (count : ℕ) where
       form_faulty h = go (row_given phrases letters row) refl
         where
           go : (one : Checked Entry) → row_given phrases letters row ≡ one → false ≡ is_fine (entries_given phrases letters numbers)
-          go (fine entry) e = absurd (false≢true (sym h ∙ ap is_fine e))
-          go (refused number place) e = sym (formed_fault phrases r.place r.before number place _) ∙ turned (refused number place) e
+          go (Ok entry) e = absurd (false≢true (sym h ∙ ap is_fine e))
+          go (Err why) e = sym (formed_fault phrases r.place r.before why.number why.place _) ∙ turned (Err why) e
 
       module _ (fits : is_fine (row_given phrases letters row) ≡ true) where
         the_entry : Entry
         the_entry = (fine_some (row_given phrases letters row) fits).0
 
-        given : row_given phrases letters row ≡ fine the_entry
+        given : row_given phrases letters row ≡ Ok the_entry
         unfolding the_entry
         given = (fine_some (row_given phrases letters row) fits).1
 
@@ -85,7 +86,7 @@ module _ (phrases : Bool) (letters numbers : List ℕ) (count : ℕ) where
         form_late h =
             sym (formed_stops phrases r.place r.before the_entry 12 r.place _
             (in_order_late r.before now_placed (ranked_here ∙ lt-ltb row.kind highest h)))
-            ∙ turned (fine the_entry) given
+            ∙ turned (Ok the_entry) given
 
         module _ (slotted : ℕ) (in-slot : slotted ≡ slot_of row) where
           slot_here : slot the_entry ≡ slotted
@@ -98,7 +99,7 @@ module _ (phrases : Bool) (letters numbers : List ℕ) (count : ℕ) where
           pub form_twice : get_or seen slotted false ≡ true → false ≡ is_fine (entries_given phrases letters numbers)
           form_twice h =
               sym (formed_stops phrases r.place r.before the_entry 12 r.place _ (in_order_twice r.before now_placed (tagged_here ∙ h)))
-              ∙ turned (fine the_entry) given
+              ∙ turned (Ok the_entry) given
 
           pub form_goes_on : slotted < 256 → get_or seen slotted false ≡ false → highest ≤ row.kind
               → Forming phrases letters numbers count (set seen slotted true) row.kind (i + 1)
@@ -116,7 +117,7 @@ module _ (phrases : Bool) (letters numbers : List ℕ) (count : ℕ) where
                 same =
                     sym (formed_next phrases r.place r.before the_entry _
                     (in_order_passes r.before now_placed (tagged_here ∙ first) (ranked_here ∙ le-ltb row.kind highest up)))
-                    ∙ turned (fine the_entry) given;
+                    ∙ turned (Ok the_entry) given;
               }
 
 pub ruleset forming = (form_starts, form_ends, form_faulty, form_late, form_twice, form_goes_on, flag_on, flag_off)

@@ -4,7 +4,8 @@ use mathlib.Core.List.{List, [], ◌∷◌, map}
 use mathlib.Core.Bool.{Bool, true}
 use mathlib.Core.Path.{◌≡◌, refl, sym, ◌∙◌, ap, subst}
 use lib.ListN.{length}
-use Rattle.model.specs.Words.{Placed, placed_from, Checked, Checked.fine, Checked.refused, ◌>>=◌, ◌>>◌, walk_of, in_turn}
+use Rattle.model.specs.Words.{Placed, placed_from, Checked, ◌>>=◌, ◌>>◌, walk_of, in_turn, refused}
+use Rattle.std.specs.Prelude.{Ok, Err}
 use Rattle.model.specs.Item.{is_fine, found}
 use Rattle.model.specs.Seek.{Entry, in_order}
 use Rattle.model.specs.Track.{point_width}
@@ -30,7 +31,7 @@ RowsAre letters [] (entry ∷ entries) = ⊥
 RowsAre letters (row ∷ rows) [] = ⊥
 RowsAre letters (row ∷ rows) (entry ∷ entries) = RowIs letters row entry × RowsAre letters rows entries
 
-rows_are : (phrases : Bool) (letters : List ℕ) (rows : List Row) (entries : List Entry) → rows_given phrases letters rows ≡ fine entries → RowsAre letters rows entries
+rows_are : (phrases : Bool) (letters : List ℕ) (rows : List Row) (entries : List Entry) → rows_given phrases letters rows ≡ Ok entries → RowsAre letters rows entries
 unfolding rows_given ahead
 rows_are phrases letters [] entries e = let none : [] ≡ entries = cc in subst (RowsAre letters []) none tt
 rows_are phrases letters (row ∷ rows) entries e =
@@ -42,7 +43,7 @@ rows_are phrases letters (row ∷ rows) entries e =
 pub record GivenEntries (phrases : Bool) (letters numbers : List ℕ) : Type 0 where
   pub entries : List Entry
   pub are : RowsAre letters (rows_in numbers) entries
-  pub placed : entries_given phrases letters numbers ≡ fine (entries_placed (point_width phrases) entries)
+  pub placed : entries_given phrases letters numbers ≡ Ok (entries_placed (point_width phrases) entries)
   pub stand : found (entries_given phrases letters numbers) ≡ entries_placed (point_width phrases) entries
   pub only : entries_in (found (entries_given phrases letters numbers)) ≡ entries
 
@@ -52,7 +53,7 @@ given_entries phrases letters numbers h =
     let s = fine_some (entries_given phrases letters numbers) h in
     let f = bind_fine _ _ s.0 s.1 in
     let all = in_turn_all in_order (entries_placed (point_width phrases) f.0) [] s.0 f.2 in
-    let is : entries_given phrases letters numbers ≡ fine (entries_placed (point_width phrases) f.0) = s.1 ∙ ap fine all.0 in
+    let is : entries_given phrases letters numbers ≡ Ok (entries_placed (point_width phrases) f.0) = s.1 ∙ ap Ok all.0 in
     record {
       entries = f.0;
       are = rows_are phrases letters (rows_in numbers) f.0 (sym (from_rows phrases letters (length numbers / 4) numbers) ∙ f.1);
@@ -64,18 +65,18 @@ given_entries phrases letters numbers h =
 -- 12 is the only refusal
 
 abbrev Twelve : {A : Type 0} → Checked A → Type 0
-Twelve (fine a) = Unit
-Twelve (refused number place) = number ≡ 12
+Twelve (Ok a) = Unit
+Twelve (Err why) = why.number ≡ 12
 
 bind_twelve : {A B : Type 0} (one : Checked A) (rest : A → Checked B) → Twelve one → ((a : A) → Twelve (rest a)) → Twelve (one >>= rest)
 unfolding ◌>>=◌
-bind_twelve (fine a) rest h g = g a
-bind_twelve (refused number place) rest h g = h
+bind_twelve (Ok a) rest h g = g a
+bind_twelve (Err why) rest h g = h
 
 then_twelve : {A B : Type 0} (one : Checked A) (rest : Checked B) → Twelve one → Twelve rest → Twelve (one >> rest)
 unfolding ◌>>◌
-then_twelve (fine a) rest h g = g
-then_twelve (refused number place) rest h g = h
+then_twelve (Ok a) rest h g = g
+then_twelve (Err why) rest h g = h
 
 order_twelve : (before : List (Placed Entry)) (entry : Placed Entry) → Twelve (in_order before entry)
 unfolding in_order
@@ -86,18 +87,18 @@ unfolding in_turn walk_of
 turn_twelve [] before = tt
 turn_twelve (entry ∷ all) before =
     then_twelve (in_order before entry) _ (order_twelve before entry)
-    (bind_twelve (in_turn in_order (entry ∷ before) (walk_of all)) (λ found. fine (entry ∷ found)) (turn_twelve all (entry ∷ before)) (λ a. tt))
+    (bind_twelve (in_turn in_order (entry ∷ before) (walk_of all)) (λ found. Ok (entry ∷ found)) (turn_twelve all (entry ∷ before)) (λ a. tt))
 
 row_twelve : (letters : List ℕ) (row : Row) (one : Checked Entry) → Given letters row one → Twelve one
-row_twelve letters row (fine entry) h = tt
-row_twelve letters row (refused number place) h = h
+row_twelve letters row (Ok entry) h = tt
+row_twelve letters row (Err why) h = h
 
 rows_twelve : (phrases : Bool) (letters : List ℕ) (rows : List Row) → Twelve (rows_given phrases letters rows)
 unfolding rows_given ahead
 rows_twelve phrases letters [] = tt
 rows_twelve phrases letters (row ∷ rows) =
     bind_twelve (row_given phrases letters row) _ (row_twelve letters row (row_given phrases letters row) (row_gives phrases letters row))
-    (λ entry. bind_twelve (rows_given phrases letters rows) (λ entries. fine (entry ∷ entries)) (rows_twelve phrases letters rows) (λ a. tt))
+    (λ entry. bind_twelve (rows_given phrases letters rows) (λ entries. Ok (entry ∷ entries)) (rows_twelve phrases letters rows) (λ a. tt))
 
 pub given_twelve : (phrases : Bool) (letters numbers : List ℕ) (number place : ℕ) → entries_given phrases letters numbers ≡ refused number place → number ≡ 12
 unfolding entries_given rows_in

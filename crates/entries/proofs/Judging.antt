@@ -2,10 +2,10 @@
 use Prim.Native.Nat.{ℕ, ◌+◌}
 use mathlib.Core.List.{List, [], ◌∷◌}
 use mathlib.Core.Bool.{Bool, true, false, not, false≢true}
-use mathlib.Core.Option.{Option, none, some}
+use Rattle.std.specs.Prelude.{Option, None, Some, Ok, Err}
 use mathlib.Core.Path.{◌≡◌, refl, sym, ◌∙◌, ap, subst}
 use lib.ListN.{length}
-use Rattle.model.specs.Words.{when◌then◌else◌, ◌and◌, ◌or◌, ◌<?◌, ◌≡?◌, is_some, ◌otherwise◌, ◌or_else◌, first_said, Placed, placed_from, Checked, Checked.fine, Checked.refused, passed, ◌>>=◌, ◌>>◌, all_pass}
+use Rattle.model.specs.Words.{when◌then◌else◌, ◌and◌, ◌or◌, ◌<?◌, ◌≡?◌, is_some, ◌otherwise◌, ◌or_else◌, first_said, Placed, placed_from, Checked, passed, ◌>>=◌, ◌>>◌, all_pass, refused}
 use Rattle.model.specs.Item.{is_fine, found}
 use Rattle.model.specs.Seek.{Entry, Entry.start, Entry.stop, Entry.phrase, Entry.order, start_in, phrase_in, order_in, start_point, phrase_of, order_list}
 use Rattle.model.specs.Points.{point_holds, points_hold, is_position, letters_named, letters_hold, order_holds}
@@ -81,7 +81,7 @@ module _ (size : Entry → ℕ) (letters : List ℕ) where
   listed_is (row ∷ rows) (phrase letter from to ∷ entries) at are = let k = are.0.0 in rw k (listed_is rows entries _ are.1)
   listed_is (row ∷ rows) (order others ∷ entries) at are = let k = are.0.0 in rw k (ap length are.0.1)
 
-  some_if : {A : Type 0} (b : Bool) (a : A) (more : Option A) → is_some ((when b then some a else none) or_else more) ≡ (b or is_some more)
+  some_if : {A : Type 0} (b : Bool) (a : A) (more : Option A) → is_some ((when b then Some a else None) or_else more) ≡ (b or is_some more)
   unfolding when◌then◌else◌ ◌or_else◌ is_some ◌or◌
   some_if true a more = refl
   some_if false a more = refl
@@ -170,13 +170,13 @@ unfolding seek_stage is_fine fault_in ◌>>=◌
 formless phrases letters numbers items h = go (entries_given phrases letters numbers) refl
   where
     go : (o : Checked (List (Placed Entry))) → entries_given phrases letters numbers ≡ o → fault_in (seek_stage phrases numbers items letters) ≡ 12
-    go (fine placed) e = absurd (false≢true (sym h ∙ ap is_fine e))
-    go (refused number place) e = rw e (given_twelve phrases letters numbers number place e)
+    go (Ok placed) e = absurd (false≢true (sym h ∙ ap is_fine e))
+    go (Err why) e = rw e (given_twelve phrases letters numbers why.number why.place e)
 
-then_same : (o : Checked (Unit {0})) (entries : List (Placed Entry)) → fault_in (o >> fine entries) ≡ fault_in o
+then_same : (o : Checked (Unit {0})) (entries : List (Placed Entry)) → fault_in (o >> Ok entries) ≡ fault_in o
 unfolding fault_in ◌>>◌
-then_same (fine u) entries = refl
-then_same (refused number place) entries = refl
+then_same (Ok u) entries = refl
+then_same (Err why) entries = refl
 
 stage_ruled : (phrases : Bool) (letters numbers items : List ℕ) → is_fine (entries_given phrases letters numbers) ≡ true
     → fault_in (seek_stage phrases numbers items letters) ≡ fault_in (rules_hold phrases (is_place items) (found (entries_given phrases letters numbers)))
@@ -185,8 +185,8 @@ stage_ruled phrases letters numbers items h = go (entries_given phrases letters 
   where
     go : (o : Checked (List (Placed Entry))) → entries_given phrases letters numbers ≡ o
         → fault_in (seek_stage phrases numbers items letters) ≡ fault_in (rules_hold phrases (is_place items) (found (entries_given phrases letters numbers)))
-    go (fine placed) e = rw e (then_same (rules_hold phrases (is_place items) placed) placed)
-    go (refused number place) e = absurd (false≢true (sym (ap is_fine e) ∙ h))
+    go (Ok placed) e = rw e (then_same (rules_hold phrases (is_place items) placed) placed)
+    go (Err why) e = absurd (false≢true (sym (ap is_fine e) ∙ h))
 
 list_fault : (ordered named : Bool) → ◌≡◌ {A = ℕ} (when not ordered or named then 0 else 14) (when ordered then (when named then 0 else 14) else 0)
 unfolding when◌then◌else◌ ◌or◌

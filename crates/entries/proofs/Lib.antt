@@ -9,10 +9,10 @@ pub mod ListsInTurn
 pub mod GivenEntries
 pub mod ChunkOf
 pub mod Sizing
+pub mod Overlaps
 pub mod Numbers
 pub mod RowStores
 pub mod Filling
-pub mod Overlaps
 pub mod ChunkStores
 pub mod Reaching
 pub mod Finding

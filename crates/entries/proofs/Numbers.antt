@@ -1,30 +1,34 @@
--- Numbers stored byte by byte, and a point by its width.
-use Prim.Native.Nat.{ℕ, ◌+◌, ◌/◌, ◌%◌, ◌<◌, ◌≤◌}
-use mathlib.Core.List.{List, ◌++◌}
+-- Numbers stored byte by byte, the last byte first, and a point by its width.
+use Prim.Native.Nat.{ℕ, suc, ◌+◌, ◌-◌, ◌/◌, ◌%◌, ◌<◌, ◌≤◌}
+use mathlib.Core.List.{List, [], ◌∷◌, ◌++◌}
 use mathlib.Core.Bool.{Bool, true, false}
-use mathlib.Core.Path.{◌≡◌, refl, ◌∙◌, ap}
-use mir.Syntax.{w16, w32}
-use mir.Val.{Fits}
+use mathlib.Core.Path.{◌≡◌, refl, sym, ◌∙◌, ap}
 use lib.ListN.{length, set}
 use lib.Seq.{sets}
-use native.Mathlib.Numerals.{towards_suc}
 use native.Mathlib.Omega.{arith}
 use Rattle.model.specs.Track.{point_width}
 use Rattle.model.specs.ChunkBytes.{number_bytes}
 use Rattle.model.proofs.Stores.{sets_append}
+use Rattle.entries.proofs.NumberBytes.{number_bytes_length}
+use Rattle.entries.proofs.Overlaps.{set_later}
 
-module _ (l : List ℕ) (at n : ℕ) where
-  pub number_2_stored : Fits w16 n → set (set l at (n / 256)) (at + 1) (n % 256) ≡ sets l at (number_bytes 2 n)
+-- a byte of a number is stored, and those before it make the whole
+module _ (l : List ℕ) (at i n : ℕ) (whole : List ℕ) (same : sets l at (number_bytes i n) ≡ whole) where
+  pub number_turns : 0 < i → sets (set l (at + (i - 1)) (n % 256)) at (number_bytes (i - 1) (n / 256)) ≡ whole
   unfolding number_bytes
-  number_2_stored small = let high : n / 256 % 256 ≡ n / 256 = omega arith in rw high (simp towards_suc)
+  number_turns h =
+      let high = number_bytes (i - 1) (n / 256) in
+      let long : at + (i - 1) ≡ at + length high = ap (λ (k : ℕ). at + k) (sym (number_bytes_length (i - 1) (n / 256))) in
+      let one : suc (i - 1) ≡ i = omega arith in
+      set_later high l at (at + (i - 1)) (n % 256) (omega arith)
+      ∙ ap (λ (k : ℕ). set (sets l at high) k (n % 256)) long
+      ∙ sets_append l at high (n % 256 ∷ [])
+      ∙ ap (λ (k : ℕ). sets l at (number_bytes k n)) one
+      ∙ same
 
-  pub number_4_stored : Fits w32 n
-      → set (set (set (set l at (n / 0x1000000)) (at + 1) (n / 0x10000 % 256)) (at + 2) (n / 0x100 % 256)) (at + 3) (n % 256) ≡ sets l at (number_bytes 4 n)
+  pub number_left : i ≤ 0 → l ≡ whole
   unfolding number_bytes
-  number_4_stored small =
-      let first : n / 256 / 256 / 256 % 256 ≡ n / 0x1000000 = omega arith in
-      let second : n / 256 / 256 % 256 ≡ n / 0x10000 % 256 = omega arith in
-      rw (first, second) (simp towards_suc)
+  number_left h = let none_left : i ≡ 0 = omega arith in sym (ap (λ (k : ℕ). sets l at (number_bytes k n)) none_left) ∙ same
 
 -- two numbers
 module _ (at middle : ℕ) (between : middle ≡ at + 4) where
@@ -43,25 +47,21 @@ pub ruleset pairs = (pair_next, pair_wrote)
 
 -- a point
 module _ (phrases : Bool) (at : ℕ) where
-  module _ (p : phrases ≡ true) where
-    pub byte_room : (l : List ℕ) → at + point_width phrases ≤ length l → at < length l
-    byte_room l h = let k = rw p at h in omega arith
+  module _ (width : ℕ) (is : point_width phrases ≡ width) where
+    pub point_room : (l : List ℕ) → at + point_width phrases ≤ length l → at + width ≤ length l
+    point_room l h = rw is at h
 
-    pub byte_next : (z : ℕ) → z ≡ at + 1 → z ≡ at + point_width phrases
-    byte_next z e = rw p e
+    pub point_next : (z : ℕ) → z ≡ at + width → z ≡ at + point_width phrases
+    point_next z e = rw is e
 
-    pub byte_stored : (l : List ℕ) (value : ℕ) → set l at (value % 256) ≡ sets l at (number_bytes (point_width phrases) value)
-    unfolding number_bytes
-    byte_stored l value = rw p refl
+    pub point_wrote : (l m : List ℕ) (value : ℕ) → m ≡ sets l at (number_bytes width value) → m ≡ sets l at (number_bytes (point_width phrases) value)
+    point_wrote l m value e = rw is e
 
-  module _ (p : phrases ≡ false) where
-    pub address_room : (l : List ℕ) → at + point_width phrases ≤ length l → at + 4 ≤ length l
-    address_room l h = rw p at h
+-- with phrases a byte, in a stream four
+pub byte_wide : (phrases : Bool) → phrases ≡ true → point_width phrases ≡ 1
+byte_wide phrases p = rw p refl
 
-    pub address_next : (z : ℕ) → z ≡ at + 4 → z ≡ at + point_width phrases
-    address_next z e = rw p e
+pub address_wide : (phrases : Bool) → phrases ≡ false → point_width phrases ≡ 4
+address_wide phrases p = rw p refl
 
-    pub address_wrote : (l m : List ℕ) (value : ℕ) → m ≡ sets l at (number_bytes 4 value) → m ≡ sets l at (number_bytes (point_width phrases) value)
-    address_wrote l m value e = rw p e
-
-pub ruleset point_bytes = (byte_room, byte_next, byte_stored, address_room, address_next, address_wrote)
+pub ruleset point_bytes = (point_room, point_next, point_wrote, byte_wide, address_wide)

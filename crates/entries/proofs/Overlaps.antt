@@ -8,7 +8,7 @@ use native.Mathlib.Decide.{dec_lt}
 use native.Mathlib.Omega.{arith}
 use Rattle.model.proofs.Stores.{sets_append}
 
-set_later : (first l : List ℕ) (at i a : ℕ) → at + length first ≤ i → sets (set l i a) at first ≡ set (sets l at first) i a
+pub set_later : (first l : List ℕ) (at i a : ℕ) → at + length first ≤ i → sets (set l i a) at first ≡ set (sets l at first) i a
 set_later [] l at i a h = refl
 set_later (b ∷ first) l at i a h =
     ap (λ (x : List ℕ). sets x (suc at) first) (set_comm l i at a b (λ e. omega arith)) ∙ set_later first (set l at b) (suc at) i a (omega arith)

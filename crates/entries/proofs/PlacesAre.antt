@@ -6,7 +6,8 @@ use mathlib.Core.Path.{◌≡◌, refl, sym, ◌∙◌, ap, fun_ext}
 use lib.ListN.{length, drop, length-append}
 use native.Mathlib.Nat.{add-zero, zero-add}
 use native.Mathlib.Omega.{arith}
-use Rattle.model.specs.Words.{◌or◌, ◌≡?◌, any, Placed, placed_from, Checked, Checked.fine, ◌>>◌}
+use Rattle.model.specs.Words.{◌or◌, ◌≡?◌, any, Placed, placed_from, Checked, ◌>>◌}
+use Rattle.std.specs.Prelude.{Ok}
 use Rattle.model.specs.Bytes.{◌!◌}
 use Rattle.model.specs.Item.{Item, is_fine}
 use Rattle.model.specs.Seek.{Entry}
@@ -44,12 +45,12 @@ address_first place item rest address =
     rw sum (or_assoc (place ≡? address) _ _)
 
 module _ (voice : Voice) (source : List ℕ) where
-  sized : (duration word : ℕ) (item : Item Content) → item_given voice source duration word ≡ fine item → given_size duration word ≡ length (item_bytes handy_phone item)
+  sized : (duration word : ℕ) (item : Item Content) → item_given voice source duration word ≡ Ok item → given_size duration word ≡ length (item_bytes handy_phone item)
   unfolding is_fine given_bytes
   sized duration word item e =
       sym (given_length voice source duration word (ap is_fine e)) ∙ ap (λ (c : Checked (Item Content)). length (given_bytes c)) e
 
-  starts_are : (address count index : ℕ) (numbers : List ℕ) (items : List (Item Content)) (place : ℕ) → items_from voice source count index numbers ≡ fine items
+  starts_are : (address count index : ℕ) (numbers : List ℕ) (items : List (Item Content)) (place : ℕ) → items_from voice source count index numbers ≡ Ok items
       → is_start place count numbers address ≡ address_from place items address
   unfolding items_from is_start ahead placed_from bytes_of any ◌or◌
   starts_are address zero index numbers items place e =
@@ -63,7 +64,7 @@ module _ (voice : Voice) (source : List ℕ) where
       ∙ sym (address_first place f.0 f.1 address)
       ∙ ap (λ (l : List (Item Content)). address_from place l address) (sym f.4)
 
-  module _ (numbers : List ℕ) (items : List (Item Content)) (given : items_given voice source numbers ≡ fine items) where
+  module _ (numbers : List ℕ) (items : List (Item Content)) (given : items_given voice source numbers ≡ Ok items) where
     pub place_is : (address : ℕ) → is_place numbers address ≡ is_address (items_placed items) (length (bytes_of handy_phone items)) address
     unfolding items_given items_placed is_place is_address
     place_is address =

@@ -6,7 +6,8 @@ use mathlib.Core.Path.{◌≡◌, refl, sym, subst}
 use lib.ListN.{length}
 use native.Mathlib.Omega.{arith}
 use borrow.Author.Tests.{eqb-true, ne_eqb}
-use Rattle.model.specs.Words.{when◌then◌else◌, ◌≤?◌, ◌≡?◌, Checked, Checked.fine, Checked.refused}
+use Rattle.model.specs.Words.{when◌then◌else◌, ◌≤?◌, ◌≡?◌, Checked, refused}
+use Rattle.std.specs.Prelude.{Ok, Err}
 use Rattle.model.specs.Seek.{Entry, Entry.start, Entry.stop, Entry.phrase, Entry.order, is_letter, letters_in_front, tag, rank}
 use Rattle.model.specs.Item.{is_fine}
 use Rattle.model.specs.SeekBytes.{largest_point, entry_given}
@@ -24,8 +25,8 @@ RowIs letters row (order others) = (row.kind ≡ 3) × (others ≡ letters)
 
 -- an entry of the row, or 12
 abbrev pub Given : List ℕ → Row → Checked Entry → Type 0
-Given letters row (fine entry) = RowIs letters row entry
-Given letters row (refused number place) = number ≡ 12
+Given letters row (Ok entry) = RowIs letters row entry
+Given letters row (Err why) = why.number ≡ 12
 
 pub row_gives : (phrases : Bool) (letters : List ℕ) (row : Row) → Given letters row (row_given phrases letters row)
 unfolding entry_given
@@ -36,7 +37,7 @@ row_gives phrases letters row =
     (λ k. if_all Is _ _ _ (λ k. if_all Is _ _ _ (λ h. (eqb-true row.kind 2 k, refl, refl, refl, h)) (λ h. refl))
     (λ k. if_all Is _ _ _ (λ k. if_all Is _ _ _ (λ h. (eqb-true row.kind 3 k, refl)) (λ h. refl)) (λ k. refl))))
 
-pub row_is : (phrases : Bool) (letters : List ℕ) (row : Row) (entry : Entry) → row_given phrases letters row ≡ fine entry → RowIs letters row entry
+pub row_is : (phrases : Bool) (letters : List ℕ) (row : Row) (entry : Entry) → row_given phrases letters row ≡ Ok entry → RowIs letters row entry
 row_is phrases letters row entry e = subst (Given letters row) e (row_gives phrases letters row)
 
 module _ (letters : List ℕ) (row : Row) where
@@ -72,7 +73,7 @@ module _ (letters : List ℕ) (row : Row) where
 
 -- whether a row is an entry, by its kind
 module _ (phrases : Bool) (letters : List ℕ) (row : Row) (z : Bool) where
-  fine_if : (b : Bool) (entry : Entry) → z ≡ b → z ≡ is_fine (when b then fine entry else refused 12 0)
+  fine_if : (b : Bool) (entry : Entry) → z ≡ b → z ≡ is_fine (when b then Ok entry else refused 12 0)
   unfolding when◌then◌else◌ is_fine
   fine_if true entry e = e
   fine_if false entry e = e

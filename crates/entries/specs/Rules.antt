@@ -1,6 +1,6 @@
 -- The rules that entries keep (13, 14), over rows.
-use Rattle.std.specs.Prelude.{ℕ, ◌%◌, ◌<◌, List, [], ◌∷◌, Bool, true, false, ◌≡◌, get_or, set}
-use Rattle.model.specs.Words.{when◌then◌else◌, ◌and◌, ◌or◌, ◌<?◌, ◌≤?◌, ◌≡?◌, Placed, Checked, Checked.fine, ◌>>=◌, ◌>>◌}
+use Rattle.std.specs.Prelude.{ℕ, ◌%◌, ◌<◌, List, [], ◌∷◌, Bool, true, false, ◌≡◌, get_or, set, Ok}
+use Rattle.model.specs.Words.{when◌then◌else◌, ◌and◌, ◌or◌, ◌<?◌, ◌≤?◌, ◌≡?◌, Placed, Checked, ◌>>=◌, ◌>>◌}
 use Rattle.model.specs.Seek.{Entry}
 use Rattle.model.specs.Points.{is_span, points_hold, is_position, order_holds}
 use Rattle.model.specs.SeekBytes.{entries_given}
@@ -20,7 +20,7 @@ unfoldable pub seek_stage : Bool → List ℕ → List ℕ → List ℕ → Chec
 seek_stage phrases entries items letters = do
   placed ← entries_given phrases letters entries
   rules_hold phrases (is_place items) placed
-  fine placed
+  Ok placed
 
 -- the start point's value, 0 without one
 unfoldable pub started_in : List Row → ℕ

@@ -21,9 +21,8 @@ pub fn advance(source: &[u8], items: &[u32], front: Cursor, address: u32) -> Cur
 {
     let count = items.len() / 2;
     let wanted = address as usize;
-    let mut index = front.index;
     let mut place = front.place;
-    while index < count {
+    for index in front.index..count {
         if wanted <= place {
             return Cursor { index, place };
         }
@@ -38,25 +37,26 @@ pub fn advance(source: &[u8], items: &[u32], front: Cursor, address: u32) -> Cur
             }
             place += length;
         }
-        index += 1;
     }
-    Cursor { index, place }
+    Cursor {
+        index: count,
+        place,
+    }
 }
 
 // The first place from an address on, looked for from the first item on, or the last of all places.
+#[tactic(auto, using(crate::proofs::Reaching::reaching))]
 fn reach(items: &[u32], address: u32) -> usize
     ensures { (result ≡? address) ≡ is_place items.now address }
 {
     let count = items.len() / 2;
     let wanted = address as usize;
     let mut place: usize = 0;
-    let mut index: usize = 0;
-    while index < count {
+    for index in 0..count {
         if wanted <= place {
             return place;
         }
         place += given_size(items[2 * index], items[2 * index + 1]);
-        index += 1;
     }
     place
 }

@@ -8,12 +8,13 @@ ghost use Rattle.model.specs.SeekBytes.{entries_given};
 ghost use Rattle.model.specs.Arrangement.{seek_chunk};
 ghost use Rattle.entries.specs.Rows.{tag_of, data_of, row_bytes, rows_bytes, rows_in, entries_in};
 
-use super::bytes::{write_header, write_number_2, write_pair, write_point};
+use super::bytes::{write_header, write_number, write_pair, write_point};
 use super::row::{Row, row_at};
 use writing::copy_part;
 
 // The two tag bytes as a number: "st", "sp", "P" and a letter, "SL".
-fn tag_of(row: Row) -> u16
+#[tactic(auto, using(model::proofs::Tests::tests), unfolding(crate::specs::Rows::tag_of))]
+fn tag_of(row: Row) -> u32
     ensures { result ≡ tag_of row }
 {
     if row.kind == 0 {
@@ -23,19 +24,20 @@ fn tag_of(row: Row) -> u16
         return 0x7370;
     }
     if row.kind == 2 {
-        return 0x5000 + (row.letter % 256) as u16;
+        return 0x5000 + row.letter % 256;
     }
     0x534C
 }
 
 // A comma, the tag, a colon.
+#[tactic(auto, using(crate::proofs::RowStores::tag_stores))]
 fn write_tag(row: Row, out: &mut [u8], at: usize) -> usize
     requires { at + 4 ≤ length out.old }
     ensures value { result ≡ at + 4 }
     ensures out_after { out.new ≡ sets out.old at (0x2C ∷ number_bytes 2 (tag_of row) ++ (0x3A ∷ [])) }
 {
     out[at] = 0x2C;
-    let next = write_number_2(out, at + 1, tag_of(row));
+    let next = write_number::<2>(out, at + 1, tag_of(row));
     out[next] = 0x3A;
     next + 1
 }
@@ -72,10 +74,8 @@ fn write_rows(phrases: bool, letters: &[u8], entries: &[u32], out: &mut [u8], at
 {
     let count = entries.len() / 4;
     let mut next = at;
-    let mut i: usize = 0;
-    while i < count {
+    for i in 0..count {
         next = write_row(phrases, letters, row_at(entries, i), out, next);
-        i += 1;
     }
     next
 }

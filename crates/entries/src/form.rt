@@ -15,6 +15,7 @@ fn are_letters(letters: &[u8]) -> bool
     letters_in_front(letters, 0) == letters.len()
 }
 
+#[tactic(auto, using(crate::proofs::Cases::letter_large))]
 fn is_phrase_letter(letter: u32) -> bool
     ensures { result ≡ is_letter letter }
 {
@@ -34,6 +35,7 @@ fn point_fits(phrases: bool, value: u32) -> bool
 }
 
 // Whether a row is an entry.
+#[tactic(auto, using(crate::proofs::RowIs::row_fits))]
 fn row_fits(phrases: bool, letters: &[u8], row: Row) -> bool
     ensures { result ≡ is_fine (row_given phrases letters.now row) }
 {
@@ -53,6 +55,7 @@ fn row_fits(phrases: bool, letters: &[u8], row: Row) -> bool
 }
 
 // A number of its own for each tag: a phrase's is its letter, which is none of the others' numbers.
+#[tactic(auto, using(model::proofs::Tests::tests), unfolding(crate::specs::Rows::slot_of))]
 fn slot_of(row: Row) -> usize
     ensures { (result ≡ slot_of row) × (result < 256) }
 {
@@ -71,8 +74,7 @@ pub fn has_form(phrases: bool, letters: &[u8], entries: &[u32]) -> bool
     let count = entries.len() / 4;
     let mut seen = [false; 256];
     let mut highest: u32 = 0;
-    let mut i: usize = 0;
-    while i < count {
+    for i in 0..count {
         let row = row_at(entries, i);
         if !row_fits(phrases, letters, row) {
             return false;
@@ -87,7 +89,6 @@ pub fn has_form(phrases: bool, letters: &[u8], entries: &[u32]) -> bool
         }
         seen[slot] = true;
         highest = kind;
-        i += 1;
     }
     true
 }

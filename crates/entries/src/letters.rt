@@ -6,6 +6,7 @@ ghost use Rattle.entries.specs.Rules.{Named, marked, all_named, letters_fault};
 use super::row::{Row, row_at};
 
 // A phrase's letter is flagged.
+#[tactic(auto, using(model::proofs::Tests::tests), unfolding(crate::specs::Rules::marked))]
 fn mark(flags: &mut [bool; 256], row: Row)
     ensures { flags.new ≡ marked flags.old row }
 {
@@ -20,10 +21,8 @@ fn name_letters(entries: &[u32]) -> [bool; 256]
 {
     let count = entries.len() / 4;
     let mut flags = [false; 256];
-    let mut i: usize = 0;
-    while i < count {
+    for i in 0..count {
         mark(&mut flags, row_at(entries, i));
-        i += 1;
     }
     flags
 }
@@ -39,12 +38,10 @@ fn letters_named(letters: &[u8], entries: &[u32]) -> bool
     ensures { result ≡ all_named (rows_in entries.now) letters.now }
 {
     let flags = name_letters(entries);
-    let mut i: usize = 0;
-    while i < letters.len() {
-        if !is_flagged(&flags, letters[i]) {
+    for &letter in letters {
+        if !is_flagged(&flags, letter) {
             return false;
         }
-        i += 1;
     }
     true
 }

@@ -13,7 +13,7 @@ mod rows;
 mod size;
 
 pub use address::{Cursor, advance};
-pub use bytes::{write_header, write_number_2};
+pub use bytes::{write_header, write_number};
 pub use chunk::write_seek;
 pub use rows::{Told, judge_entries};
 pub use size::seek_size;

@@ -15,6 +15,7 @@ pub struct Judged {
 }
 
 // Whether two numbers that are known to be addresses are in order.
+#[tactic(auto, using(crate::proofs::Holding::ordering))]
 fn is_ordered(known: bool, from: u32, to: u32) -> bool
     ensures { result ≡ (known and not (to <? from)) }
 {
@@ -56,6 +57,7 @@ fn judge_point(source: &[u8], items: &[u32], front: Cursor, value: u32) -> Judge
 }
 
 // Whether a row is a stop point before the start.
+#[tactic(auto, using(model::proofs::Tests::tests, model::proofs::Tests::and_off, model::proofs::Tests::and_on))]
 fn is_early(row: Row, started: u32) -> bool
     ensures { result ≡ ((row.kind ≡? 1) and (row.from <? started)) }
 {

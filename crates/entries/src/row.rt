@@ -11,6 +11,7 @@ pub struct Row {
     pub to: u32,
 }
 
+#[tactic(auto, unfolding(crate::specs::Rows::row_at))]
 pub fn row_at(entries: &[u32], i: usize) -> Row
     requires { i < length entries.now / 4 }
     ensures { result ≡ row_at entries.now i }

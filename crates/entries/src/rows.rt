@@ -11,32 +11,30 @@ use super::points::{Judged, judge_row};
 use super::row::row_at;
 
 // The value of the start point, or 0.
+#[tactic(auto, using(crate::proofs::Finding::starting))]
 fn start_value(entries: &[u32]) -> u32
     ensures { result ≡ started_in (rows_in entries.now) }
 {
     let count = entries.len() / 4;
-    let mut i: usize = 0;
-    while i < count {
+    for i in 0..count {
         let row = row_at(entries, i);
         if row.kind == 0 {
             return row.from;
         }
-        i += 1;
     }
     0
 }
 
+#[tactic(auto, using(crate::proofs::Finding::listing))]
 fn has_list(entries: &[u32]) -> bool
     ensures { result ≡ has_list (rows_in entries.now) }
 {
     let count = entries.len() / 4;
-    let mut i: usize = 0;
-    while i < count {
+    for i in 0..count {
         let row = row_at(entries, i);
         if row.kind == 3 {
             return true;
         }
-        i += 1;
     }
     false
 }
@@ -53,8 +51,7 @@ fn judge_rows(
 {
     let count = entries.len() / 4;
     let mut front = Cursor { index: 0, place: 0 };
-    let mut i: usize = 0;
-    while i < count {
+    for i in 0..count {
         let row = row_at(entries, i);
         let judged = judge_row(phrases, source, items, front, started, listed, row);
         front = judged.front;
@@ -64,12 +61,12 @@ fn judge_rows(
                 front,
             };
         }
-        i += 1;
     }
     Judged { holds: true, front }
 }
 
 // How many letters the order list has, none where there is no list.
+#[tactic(auto, using(model::proofs::Tests::tests))]
 fn list_length(ordered: bool, letters: &[u8]) -> usize
     ensures { result ≡ (when ordered then length letters.now else 0) }
 {

@@ -7,6 +7,7 @@ use super::row::{Row, row_at};
 use writing::within_limit;
 
 // How many bytes an entry takes, and a comma.
+#[tactic(auto, using(crate::proofs::Sizing::row_sizes))]
 fn row_size(phrases: bool, letters: &[u8], row: Row) -> usize
     ensures { (result ≡ length (row_bytes phrases letters.now row)) × (result ≤ 12 + length letters.now) }
 {
@@ -31,10 +32,8 @@ pub fn seek_size(phrases: bool, letters: &[u8], entries: &[u32]) -> usize
         return 0;
     }
     let mut size: usize = 7;
-    let mut i: usize = 0;
-    while i < count {
+    for i in 0..count {
         size = within_limit(size + row_size(phrases, letters, row_at(entries, i)));
-        i += 1;
     }
     size
 }

@@ -6,20 +6,21 @@ use mathlib.Core.Path.{◌≡◌, refl}
 use lib.ListN.{length}
 use native.Mathlib.Omega.{arith}
 use borrow.Author.Tests.{lt-leb}
-use Rattle.model.specs.Words.{when◌then◌else◌, ◌and◌, ◌or◌, ◌≤?◌, ◌≡?◌}
+use Rattle.model.specs.Words.{when◌then◌else◌, ◌and◌, ◌or◌, ◌≤?◌, ◌≡?◌, ◌up_to◌, Checked, refused}
 use Rattle.model.specs.Bytes.{◌!◌}
 use Rattle.model.specs.Event.{has_kind, is_shift, is_value, long_kind, short_kind, long_at, short_at, formed, control_at}
 use Rattle.model.specs.declared.Voice.{Voice}
 use Rattle.model.specs.declared.Voice.TheVariants.{Score, Pcm}
 use Rattle.model.specs.declared.Event.TheVariants.{Control}
-use Rattle.model.specs.declared.ReadEvent.{ReadEvent}
-use Rattle.model.specs.declared.ReadEvent.TheVariants.{Is, Refused}
+use Rattle.std.specs.Prelude.{Ok, Err}
+use Rattle.model.specs.declared.Read.{Read}
+use Rattle.model.specs.declared.Event.{Event}
 use Rattle.model.proofs.Tests.{if_all}
 use Rattle.faults.proofs.Exact.{Seen, Seen.ends, Seen.fails, Mended, Exact, exact_ends, exact_wrong, exact_if, exact_byte, mended_end}
 
-abbrev pub event_seen : ReadEvent → Seen
-event_seen (Is what next) = ends next
-event_seen (Refused number place) = fails number place
+abbrev pub event_seen : Checked (Read Event) → Seen
+event_seen (Ok read) = ends read.next
+event_seen (Err why) = fails why.number why.place
 
 -- a kind that both voices have
 pub shared_kind : (voice : Voice) (kind : ℕ) → ((7 ≤? kind) and not (kind ≡? 11)) ≡ true → has_kind voice kind ≡ true
@@ -71,10 +72,10 @@ module _ (voice : Voice) (s : List ℕ) (at : ℕ) where
     long_exact room long =
         exact_if event_seen s _ (at + 1) (long_kind (s ! (at + 1) % 16) ≡? 0) _ _ (λ h. exact_wrong event_seen s _ (at + 1) refl (control_mended here) (omega arith))
         (λ h. exact_if event_seen s _ (at + 1) (not (has_kind voice (long_kind (s ! (at + 1) % 16)))) _ _ (λ i. exact_wrong event_seen s _ (at + 1) refl (control_mended here) (omega arith))
-        (λ i. exact_byte event_seen s _ (Refused 20) (λ end. refl) (at + 1) (at + 2)
+        (λ i. exact_byte event_seen s _ (refused 20) (λ end. refl) (at + 1) (at + 2)
         (λ value t.
-        when is_value (long_kind (s ! (at + 1) % 16)) value then Is (Control (long_kind (s ! (at + 1) % 16)) (s ! (at + 1) / 64) value) (at + 3) else
-        Refused 23 (at + 2))
+        when is_value (long_kind (s ! (at + 1) % 16)) value then Ok ((Control (long_kind (s ! (at + 1) % 16)) (s ! (at + 1) / 64) value) up_to (at + 3)) else
+        refused 23 (at + 2))
         (omega arith) (mended_end event_seen s _ (at + 2) (omega arith) (value_mended room long h i))
         (λ more. exact_if event_seen s _ (at + 2) (is_value (long_kind (s ! (at + 1) % 16)) (s ! (at + 2))) _ _
         (λ k. exact_ends event_seen s _ (at + 2) refl (omega arith))
@@ -92,6 +93,6 @@ module _ (voice : Voice) (s : List ℕ) (at : ℕ) where
     pub control_exact : Exact event_seen s (λ t. control_at voice t at) (λ t. control_at voice t at) (at + 1)
     unfolding control_at formed
     control_exact =
-        exact_byte event_seen s _ (Refused 20) (λ end. refl) (at + 1) (at + 1) (λ second t. formed voice t at second) (omega arith)
+        exact_byte event_seen s _ (refused 20) (λ end. refl) (at + 1) (at + 1) (λ second t. formed voice t at second) (omega arith)
         (mended_end event_seen s _ (at + 1) here (control_mended here))
         (λ room. exact_if event_seen s _ (at + 1) (s ! (at + 1) / 16 % 4 ≡? 3) _ _ (long_exact room) (λ h. short_exact room))

@@ -8,7 +8,7 @@ use mathlib.Core.Path.{◌≡◌, subst}
 use lib.ListN.{length, take}
 use lib.Seq.{take_all}
 use native.Mathlib.Omega.{arith}
-use Rattle.model.specs.Words.{Checked.refused}
+use Rattle.model.specs.Words.{refused}
 use Rattle.model.specs.Item.{body_of}
 use Rattle.model.specs.Beginning.{Beginning, ThreeZeros}
 use Rattle.model.specs.declared.Voice.{Voice}

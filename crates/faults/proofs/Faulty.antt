@@ -9,13 +9,15 @@ use lib.ListN.{length, take, length-append}
 use lib.Seq.{length-take-le}
 use native.Mathlib.Omega.{arith}
 use borrow.Author.Tests.{eqb-false}
-use Rattle.model.specs.Words.{◌or◌, ◌≡?◌, Checked.refused}
+use Rattle.model.specs.Words.{◌or◌, ◌≡?◌, refused}
+use Rattle.std.specs.Prelude.{Ok}
 use Rattle.model.specs.Bytes.{◌!◌}
 use Rattle.model.specs.Item.{item_at, body_of, is_fine}
 use Rattle.model.specs.Beginning.{Beginning, ThreeZeros}
 use Rattle.model.specs.declared.Voice.{Voice}
-use Rattle.model.specs.declared.ReadItem.TheVariants.{EndMark, Refused}
+use Rattle.model.specs.declared.ReadItem.TheVariants.{EndMark}
 use Rattle.model.proofs.Tests.{by_test, first_true, second_true}
+use Rattle.model.proofs.Walks.{same_number, same_place}
 use Rattle.items.proofs.Ahead.{ItemAhead, item_ahead}
 use Rattle.faults.proofs.Agreement.{Agree, agree_fewer, Continued, continues, each_byte}
 use Rattle.faults.proofs.Exact.{Seen.ends, Wrong, Fault}
@@ -28,8 +30,8 @@ module _ (voice : Voice) (s : List ℕ) where
     pub at : ℕ
     pub reached : Reached voice s at
     pub here : at < length s
-    pub ahead : ItemAhead at (length s) (Refused number place)
-    pub fault : Fault item_seen s (λ t. timed_at voice t at) (λ t. timed_at voice t at) at (Refused number place) number place
+    pub ahead : ItemAhead at (length s) (refused number place)
+    pub fault : Fault item_seen s (λ t. timed_at voice t at) (λ t. timed_at voice t at) at (refused number place) number place
 
   pub faulty : (number place : ℕ) → body_of voice s ≡ refused number place → Empty voice s number place ⊎ Faulty number place
   faulty number place e =
@@ -65,15 +67,15 @@ module _ (voice : Voice) (s : List ℕ) where
           accepted = ended_fine voice t f.at (reached_in place t past c.front) (ends_read voice t f.at (length t) (m.reads t c ∙ ap ends long));
         }
 
-    module _ (w : Wrong s (λ t. timed_at voice t f.at) (Refused number place) number place) where
+    module _ (w : Wrong s (λ t. timed_at voice t f.at) (refused number place) number place) where
       -- what an end mark there, in a body with the same bytes up to that place, says of them
       zeros_at : (t : List ℕ) → Agree (place + 1) s t → Zeros t f.at
           → (number ≡ 23) × (place ≡ f.at + 2) × (s ! f.at ≡ 0) × (s ! (f.at + 1) ≡ 0) × (s ! place ≡ 0)
       zeros_at t a z =
-          let told : Refused 23 (f.at + 2) ≡ Refused number place =
+          let told : refused 23 (f.at + 2) ≡ refused number place =
           sym (zeros_refused voice t f.at (omega (arith, z.room)) z.first z.second z.third) ∙ w.stays t a in
-          let last : place ≡ f.at + 2 = cc in (
-            cc,
+          let last : place ≡ f.at + 2 = sym (same_place 23 (f.at + 2) number place told) in (
+            sym (same_number 23 (f.at + 2) number place told),
             last,
             sym (a.same f.at (omega arith)) ∙ z.first,
             sym (a.same (f.at + 1) (omega arith)) ∙ z.second,
@@ -92,19 +94,19 @@ module _ (voice : Voice) (s : List ℕ) where
       unfolding zero_after
       zero_length = omega (arith, length-append (take (place + 1) s) (0x00 ∷ []), length-take-le (place + 1) s (omega (arith, w.within)))
 
-      zero_refused : item_at voice zero_after f.at ≡ Refused number place → Beginning voice (take (place + 1) s) → ⊥
+      zero_refused : item_at voice zero_after f.at ≡ refused number place → Beginning voice (take (place + 1) s) → ⊥
       zero_refused e b =
           let t = take (place + 1) s ++ b.rest in
           let a : Agree (place + 1) s t = (continues s (place + 1) (omega (arith, w.within)) b.rest).front in
           go t a b.accepted (refused_or_zeros voice t f.at number place (w.stays t a))
         where
-          go : (t : List ℕ) → Agree (place + 1) s t → is_fine (body_of voice t) ≡ true → (item_at voice t f.at ≡ Refused number place) ⊎ Zeros t f.at → ⊥
+          go : (t : List ℕ) → Agree (place + 1) s t → is_fine (body_of voice t) ≡ true → (item_at voice t f.at ≡ refused number place) ⊎ Zeros t f.at → ⊥
           go t a reads (inl q) = refused_not_fine voice t f.at (reached_in (place + 1) t (omega (arith, past)) a) (omega (arith, a.room, past)) number place q reads
           go t a reads (inr z) =
               let is = zeros_at t a z in
               let c = zero_continues in
               let n = zero_length in
-              let mark : item_at voice zero_after f.at ≡ EndMark (f.at + 4) =
+              let mark : item_at voice zero_after f.at ≡ (Ok (EndMark (f.at + 4))) =
               zeros_read voice zero_after f.at
               (record {
                 room = omega arith;

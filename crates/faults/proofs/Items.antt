@@ -7,14 +7,15 @@ use mathlib.Core.Path.{◌≡◌, refl, sym, ◌∙◌, ap, subst}
 use lib.ListN.{length}
 use native.Mathlib.Omega.{arith}
 use borrow.Author.Tests.{le-leb, lt-leb, leb-true, eqb-true}
-use Rattle.model.specs.Words.{when◌then◌else◌, ◌and◌}
+use Rattle.model.specs.Words.{when◌then◌else◌, ◌and◌, Checked, refused}
 use Rattle.model.specs.Bytes.{◌!◌}
 use Rattle.model.specs.Duration.{duration_at}
 use Rattle.model.specs.Event.{short_at, formed, control_at, event_at}
 use Rattle.model.specs.Item.{is_end_mark, with_event, with_duration, item_at}
 use Rattle.model.specs.declared.Voice.{Voice}
+use Rattle.std.specs.Prelude.{Ok}
 use Rattle.model.specs.declared.ReadItem.{ReadItem}
-use Rattle.model.specs.declared.ReadItem.TheVariants.{EndMark, Refused}
+use Rattle.model.specs.declared.ReadItem.TheVariants.{EndMark}
 use Rattle.model.proofs.Tests.{by_test, if_true, if_false, and_left, and_right}
 use Rattle.faults.proofs.Agreement.{Agree}
 use Rattle.faults.proofs.Exact.{Seen.ends, Seen.fails, Fault, ExactAs}
@@ -22,7 +23,7 @@ use Rattle.faults.proofs.Controls.{shared_kind}
 use Rattle.faults.proofs.Timed.{item_seen, timed_at, timed_exact}
 
 pub zeros_refused : (voice : Voice) (s : List ℕ) (at : ℕ) → at + 2 < length s → s ! at ≡ 0 → s ! (at + 1) ≡ 0 → s ! (at + 2) ≡ 0
-    → timed_at voice s at ≡ Refused 23 (at + 2)
+    → timed_at voice s at ≡ refused 23 (at + 2)
 unfolding duration_at with_duration event_at control_at formed short_at with_event when◌then◌else◌ ◌and◌
 zeros_refused voice s at room first second third =
     let here : at < length s = omega arith in
@@ -58,7 +59,7 @@ module _ (s : List ℕ) (at : ℕ) where
 
 -- what stands at a place, an end mark or not
 module _ (voice : Voice) (s : List ℕ) (at : ℕ) where
-  marked : is_end_mark s at ≡ true → item_at voice s at ≡ EndMark (at + 4)
+  marked : is_end_mark s at ≡ true → item_at voice s at ≡ Ok (EndMark (at + 4))
   unfolding item_at
   marked h = if_true _ _ _ h
 
@@ -67,7 +68,7 @@ module _ (voice : Voice) (s : List ℕ) (at : ℕ) where
   unmarked h = if_false _ _ _ h
 
   -- what cannot be three zeros
-  no_zeros : (timed_at voice s at ≡ Refused 23 (at + 2) → ⊥) → item_at voice s at ≡ timed_at voice s at
+  no_zeros : (timed_at voice s at ≡ refused 23 (at + 2) → ⊥) → item_at voice s at ≡ timed_at voice s at
   no_zeros other =
       by_test (is_end_mark s at)
       (λ h.
@@ -78,10 +79,10 @@ module _ (voice : Voice) (s : List ℕ) (at : ℕ) where
   pub ends_read : (next : ℕ) → item_seen (timed_at voice s at) ≡ ends next → item_seen (item_at voice s at) ≡ ends next
   ends_read next e = ap item_seen (no_zeros (λ z. let q : fails 23 (at + 2) ≡ ends next = sym (ap item_seen z) ∙ e in let w : ◌≡◌ {A = ℕ} 0 1 = cc in omega arith)) ∙ e
 
-  pub zeros_read : Zeros s at → item_at voice s at ≡ EndMark (at + 4)
+  pub zeros_read : Zeros s at → item_at voice s at ≡ Ok (EndMark (at + 4))
   zeros_read z = marked (zeros_mark s at z)
 
-  pub refused_or_zeros : (number place : ℕ) → timed_at voice s at ≡ Refused number place → (item_at voice s at ≡ Refused number place) ⊎ Zeros s at
+  pub refused_or_zeros : (number place : ℕ) → timed_at voice s at ≡ refused number place → (item_at voice s at ≡ refused number place) ⊎ Zeros s at
   refused_or_zeros number place e = by_test (is_end_mark s at) (λ h. inr (mark_zeros s at h)) (λ h. inl (unmarked h ∙ e))
 
 -- What is read is read no differently where other bytes follow, end mark or not, and what is refused is refused exactly.
@@ -116,13 +117,13 @@ module _ (voice : Voice) (s : List ℕ) (at : ℕ) (here : at < length s) where
       ∙ same
       ∙ sym is)
 
-  pub refused_exact : (number place : ℕ) → item_at voice s at ≡ Refused number place
-      → Fault item_seen s (λ t. timed_at voice t at) (λ t. timed_at voice t at) at (Refused number place) number place
+  pub refused_exact : (number place : ℕ) → item_at voice s at ≡ refused number place
+      → Fault item_seen s (λ t. timed_at voice t at) (λ t. timed_at voice t at) at (refused number place) number place
   refused_exact number place e =
-      subst (λ (r : ReadItem). ExactAs item_seen s (λ t. timed_at voice t at) (λ t. timed_at voice t at) at r (item_seen r))
+      subst (λ (r : Checked ReadItem). ExactAs item_seen s (λ t. timed_at voice t at) (λ t. timed_at voice t at) at r (item_seen r))
       (by_test (is_end_mark s at)
       (λ h.
-      let both : EndMark (at + 4) ≡ Refused number place = sym (marked voice s at h) ∙ e in
+      let both : (Ok (EndMark (at + 4))) ≡ refused number place = sym (marked voice s at h) ∙ e in
       let w : ◌≡◌ {A = ℕ} 0 1 = cc in
       absurd (omega arith))
       (λ h. sym (unmarked voice s at h) ∙ e))

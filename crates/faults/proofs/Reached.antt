@@ -4,18 +4,19 @@ use Prim.Native.Nat.{ℕ, suc, ◌+◌, ◌<◌, ◌≤◌}
 use mathlib.Core.Bool.{true}
 use mathlib.Core.List.{List, [], ◌∷◌}
 use mathlib.Core.Logic.{◌⊎◌, inl, inr}
-use mathlib.Core.Path.{◌≡◌, refl, ◌∙◌, ap}
+use mathlib.Core.Path.{◌≡◌, refl, sym, ◌∙◌, ap, ap₂}
 use lib.ListN.{length}
 use native.Mathlib.Omega.{arith}
 use borrow.Author.Tests.{eqb-true}
-use Rattle.model.specs.Words.{◌≡?◌, Placed, Checked, Checked.refused, Step.met, Step.stuck, walk_to, unasked}
+use Rattle.model.specs.Words.{◌≡?◌, Placed, Checked, Step.met, Step.stuck, walk_to, unasked, refused}
+use Rattle.std.specs.Prelude.{Ok, Err}
 use Rattle.model.specs.Item.{Item, Item.timed, Item.end_mark, item_at, item_met, item_step, body_of, is_fine, found}
 use Rattle.model.specs.declared.Voice.{Voice}
 use Rattle.model.specs.declared.Event.{Event}
 use Rattle.model.specs.declared.ReadItem.{ReadItem}
-use Rattle.model.specs.declared.ReadItem.TheVariants.{Timed, EndMark, Refused}
+use Rattle.model.specs.declared.ReadItem.TheVariants.{Timed, EndMark}
 use Rattle.model.proofs.Tests.{if_all}
-use Rattle.model.proofs.Walks.{Stand, stand_first, stand_never_stuck, refused_tells, fine_found}
+use Rattle.model.proofs.Walks.{Stand, stand_first, stand_never_stuck, refused_tells, fine_found, same_number, same_place}
 use Rattle.items.proofs.Standing.{body_stands, body_reads_to}
 use Rattle.items.proofs.Addresses.{stands_ahead, refused_stuck}
 use Rattle.faults.proofs.Agreement.{Agree, agree_fewer}
@@ -28,23 +29,26 @@ pub data Reached (voice : Voice) (s : List ℕ) : ℕ → Type 0 where
   after : {at next : ℕ} {item : Placed (Item Event)} → Reached voice s at → item_step voice s at ≡ met item next → Reached voice s next
 
 -- what is met at a place is what is seen to end there, and what the walk is stuck at is what is refused
-met_seen : (at : ℕ) (i : ReadItem) (item : Placed (Item Event)) (next : ℕ) → item_met at i ≡ met item next → item_seen i ≡ ends next
+met_seen : (at : ℕ) (i : Checked ReadItem) (item : Placed (Item Event)) (next : ℕ) → item_met at i ≡ met item next → item_seen i ≡ ends next
 unfolding item_met
-met_seen at (Timed duration event n) item next e = let same : n ≡ next = cc in ap ends same
-met_seen at (EndMark n) item next e = let same : n ≡ next = cc in ap ends same
-met_seen at (Refused number place) item next e = let w : ◌≡◌ {A = ℕ} 0 1 = cc in absurd (omega arith)
+met_seen at (Ok (Timed duration event n)) item next e = let same : n ≡ next = cc in ap ends same
+met_seen at (Ok (EndMark n)) item next e = let same : n ≡ next = cc in ap ends same
+met_seen at (Err why) item next e = let w : ◌≡◌ {A = ℕ} 0 1 = cc in absurd (omega arith)
 
-seen_met : (at : ℕ) (i : ReadItem) (next : ℕ) → item_seen i ≡ ends next → (item : Placed (Item Event)) × (item_met at i ≡ met item next)
+seen_met : (at : ℕ) (i : Checked ReadItem) (next : ℕ) → item_seen i ≡ ends next → (item : Placed (Item Event)) × (item_met at i ≡ met item next)
 unfolding item_met
-seen_met at (Timed duration event n) next e = let same : n ≡ next = cc in (record { place = at; what = timed duration event }, rw same)
-seen_met at (EndMark n) next e = let same : n ≡ next = cc in (record { place = at; what = end_mark }, rw same)
-seen_met at (Refused number place) next e = let w : ◌≡◌ {A = ℕ} 0 1 = cc in absurd (omega arith)
+seen_met at (Ok (Timed duration event n)) next e = let same : n ≡ next = cc in (record { place = at; what = timed duration event }, rw same)
+seen_met at (Ok (EndMark n)) next e = let same : n ≡ next = cc in (record { place = at; what = end_mark }, rw same)
+seen_met at (Err why) next e = let w : ◌≡◌ {A = ℕ} 0 1 = cc in absurd (omega arith)
 
-stuck_refused : (at : ℕ) (i : ReadItem) (number place : ℕ) → item_met at i ≡ stuck number place → i ≡ Refused number place
+stuck_refused : (at : ℕ) (i : Checked ReadItem) (number place : ℕ) → item_met at i ≡ stuck number place → i ≡ refused number place
 unfolding item_met
-stuck_refused at (Timed duration event n) number place e = let w : ◌≡◌ {A = ℕ} 0 1 = cc in absurd (omega arith)
-stuck_refused at (EndMark n) number place e = let w : ◌≡◌ {A = ℕ} 0 1 = cc in absurd (omega arith)
-stuck_refused at (Refused m there) number place e = cc
+stuck_refused at (Ok (Timed duration event n)) number place e = let w : ◌≡◌ {A = ℕ} 0 1 = cc in absurd (omega arith)
+stuck_refused at (Ok (EndMark n)) number place e = let w : ◌≡◌ {A = ℕ} 0 1 = cc in absurd (omega arith)
+stuck_refused at (Err why) number place e =
+    let number_is : why.number ≡ number = cc in
+    let place_is : why.place ≡ place = cc in
+    ap₂ (λ (n p : ℕ). refused {A = ReadItem} n p) number_is place_is
 
 module _ (voice : Voice) (s t : List ℕ) where
   met_stays : (at : ℕ) (item : Placed (Item Event)) (next : ℕ) → item_step voice s at ≡ met item next → Agree next s t → item_step voice t at ≡ met item next
@@ -93,7 +97,7 @@ module _ (voice : Voice) (s : List ℕ) where
       reached_fine (after r m.1) (omega arith)
 
   -- and one with a refused item there is not
-  pub refused_not_fine : (at : ℕ) → Reached voice s at → at < length s → (number place : ℕ) → item_at voice s at ≡ Refused number place
+  pub refused_not_fine : (at : ℕ) → Reached voice s at → at < length s → (number place : ℕ) → item_at voice s at ≡ refused number place
       → is_fine (body_of voice s) ≡ true → ⊥
   refused_not_fine at r here number place e reads =
       let rest = reached_rest (found (body_of voice s)) (body_stands voice s _ (fine_found (body_of voice s) reads)) at r in
@@ -104,7 +108,7 @@ module _ (voice : Voice) (s : List ℕ) where
   Empty number place = (length s ≡ 0) × (number ≡ 11) × (place ≡ 0)
 
   abbrev pub ItemRefused : ℕ → ℕ → Type 0
-  ItemRefused number place = (at : ℕ) × Reached voice s at × (at < length s) × (item_at voice s at ≡ Refused number place)
+  ItemRefused number place = (at : ℕ) × Reached voice s at × (at < length s) × (item_at voice s at ≡ refused number place)
 
   -- where a walk has come, with turns enough for what is left
   abbrev Came : ℕ → ℕ → Type 0
@@ -114,7 +118,7 @@ module _ (voice : Voice) (s : List ℕ) where
   unfolding body_of walk_to item_step
   body_told number place =
       if_all (λ (c : Checked Items). c ≡ refused number place → Empty number place ⊎ ItemRefused number place) (length s ≡? 0) _ _
-      (λ h e. inl (eqb-true (length s) 0 h, cc, cc))
+      (λ h e. inl (eqb-true (length s) 0 h, sym (same_number 11 0 number place e), sym (same_place 11 0 number place e)))
       (λ h e.
       inr (refused_tells 11 (length s) (item_step voice s) unasked Came ItemRefused
       (λ turns at next item before c is passed. let ahead = stands_ahead voice s at item next is in (after c.0 is, ahead.1, omega arith))

@@ -7,11 +7,11 @@ use lib.ListN.{length, replicate, length-append, length-replicate}
 use lib.Seq.{get_or_at}
 use native.Mathlib.Omega.{arith}
 use borrow.Author.Tests.{lt-leb, le-ltb, ltb-false, eqb-true}
-use Rattle.model.specs.Words.{when◌then◌else◌, ◌<?◌, ◌≡?◌}
+use Rattle.model.specs.Words.{when◌then◌else◌, ◌<?◌, ◌≡?◌, ◌up_to◌, refused}
 use Rattle.model.specs.Bytes.{◌!◌}
 use Rattle.model.specs.Event.{closed_at, exclusive_at, system_at}
 use Rattle.model.specs.declared.Event.TheVariants.{Nop, Exclusive}
-use Rattle.model.specs.declared.ReadEvent.TheVariants.{Is, Refused}
+use Rattle.std.specs.Prelude.{Ok}
 use Rattle.faults.proofs.Agreement.{AreBytes}
 use Rattle.faults.proofs.Exact.{Mended, Exact, exact_ends, exact_wrong, exact_if, exact_byte, exact_part, mended_end}
 use Rattle.faults.proofs.Controls.{event_seen}
@@ -68,8 +68,8 @@ module _ (s : List ℕ) (at : ℕ) where
       exact_if event_seen s _ (at + 2) (s ! (at + 2) <? 3) _ _ (λ h. exact_wrong event_seen s _ (at + 2) refl (size_mended (omega arith)) (omega arith))
       (λ h.
       let enough : 3 ≤ s ! (at + 2) = ltb-false _ _ h in
-      exact_byte event_seen s _ (Refused 20) (λ end. refl) (at + 2) (at + 2 + s ! (at + 2))
-      (λ last t. when last ≡? 0xF7 then Is (Exclusive at (s ! (at + 2))) (at + 2 + s ! (at + 2) + 1) else Refused 23 (at + 2 + s ! (at + 2))) (omega arith)
+      exact_byte event_seen s _ (refused 20) (λ end. refl) (at + 2) (at + 2 + s ! (at + 2))
+      (λ last t. when last ≡? 0xF7 then Ok ((Exclusive at (s ! (at + 2))) up_to (at + 2 + s ! (at + 2) + 1)) else refused 23 (at + 2 + s ! (at + 2))) (omega arith)
       (λ past. ending_mended (length s) room past (omega arith) enough)
       (λ more. exact_if event_seen s _ (at + 2 + s ! (at + 2)) (s ! (at + 2 + s ! (at + 2)) ≡? 0xF7) _ _
       (λ i. exact_ends event_seen s _ (at + 2 + s ! (at + 2)) refl (omega arith))
@@ -79,7 +79,7 @@ module _ (s : List ℕ) (at : ℕ) where
   exclusive_exact : at + 2 ≤ length s → Exact event_seen s (λ t. exclusive_at t at) (λ t. exclusive_at t at) (at + 2)
   unfolding exclusive_at
   exclusive_exact within =
-      exact_byte event_seen s _ (Refused 20) (λ end. refl) (at + 2) (at + 2) (λ size t. closed_at t at size) (omega arith)
+      exact_byte event_seen s _ (refused 20) (λ end. refl) (at + 2) (at + 2) (λ size t. closed_at t at size) (omega arith)
       (mended_end event_seen s _ (at + 2) within (size_mended within)) closed_exact
 
   system_mended : at + 1 ≤ length s → Mended event_seen s (λ t. system_at t at) (at + 1)
@@ -103,8 +103,8 @@ module _ (s : List ℕ) (at : ℕ) where
   pub system_exact : at + 1 ≤ length s → Exact event_seen s (λ t. system_at t at) (λ t. system_at t at) (at + 1)
   unfolding system_at
   system_exact within =
-      exact_byte event_seen s _ (Refused 20) (λ end. refl) (at + 1) (at + 1)
-      (λ second t. when second ≡? 0x00 then Is Nop (at + 2) else when second ≡? 0xF0 then exclusive_at t at else Refused 22 (at + 1)) (omega arith)
+      exact_byte event_seen s _ (refused 20) (λ end. refl) (at + 1) (at + 1)
+      (λ second t. when second ≡? 0x00 then Ok (Nop up_to (at + 2)) else when second ≡? 0xF0 then exclusive_at t at else refused 22 (at + 1)) (omega arith)
       (mended_end event_seen s _ (at + 1) within (system_mended within))
       (λ room. exact_if event_seen s _ (at + 1) (s ! (at + 1) ≡? 0x00) _ _ (λ h. exact_ends event_seen s _ (at + 1) refl (omega arith))
       (λ h. exact_if event_seen s _ (at + 1) (s ! (at + 1) ≡? 0xF0) _ _

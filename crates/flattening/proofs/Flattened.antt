@@ -7,10 +7,10 @@ use lib.Seq.{sets, sets-eq}
 use native.Mathlib.Nat.{zero-add}
 use native.Mathlib.Omega.{arith}
 use borrow.Author.Tests.{lt-ltb, le-ltb}
-use Rattle.model.specs.Words.{when◌then◌else◌, ◌or◌, Checked, Checked.fine, Checked.refused}
+use Rattle.model.specs.Words.{when◌then◌else◌, ◌or◌, Checked, refused}
+use Rattle.std.specs.Prelude.{Ok}
 use Rattle.model.specs.Answer.{written_over, memory_after, flatten_answer, flatten_room}
 use Rattle.model.specs.declared.Span.{Span}
-use Rattle.model.specs.declared.FlattenAnswer.TheVariants as flatten
 use Rattle.sections.specs.Spans.{Items}
 use Rattle.playing.proofs.Together.{short_enough}
 use Rattle.flattening.specs.declared.Measure.{Measure}
@@ -25,12 +25,12 @@ module _ (header room : ℕ) (bytes : List ℕ) where
   unfolding fitted ◌or◌ when◌then◌else◌
   no_room k h = simp (le-ltb, lt-ltb)
 
-  all_fits : length bytes ≤ 65536 → length bytes ≤ room → fitted header room bytes ≡ fine bytes
+  all_fits : length bytes ≤ 65536 → length bytes ≤ room → fitted header room bytes ≡ Ok bytes
   unfolding fitted ◌or◌ when◌then◌else◌
   all_fits k h = simp le-ltb
 
 module _ (o : Checked (List ℕ)) (number place : ℕ) (is : o ≡ refused number place) where
-  pub refused_answer : flatten.Refused number place ≡ flatten_answer o
+  pub refused_answer : refused number place ≡ flatten_answer o
   unfolding flatten_answer
   refused_answer = ap flatten_answer (sym is)
 
@@ -46,7 +46,7 @@ module _ (s : List ℕ) (items : Items) (spans : List Span) (letters : List ℕ)
     over : fitted header (length l) whole ≡ refused 18 header
     over = too_long header (length l) whole (m.over long)
 
-    pub over_answer : flatten.Refused 18 header ≡ flatten_answer (fitted header (length l) (order_bytes s items spans 0 0 letters))
+    pub over_answer : refused 18 header ≡ flatten_answer (fitted header (length l) (order_bytes s items spans 0 0 letters))
     over_answer = refused_answer _ 18 header over
 
     pub over_room : l ≡ flatten_room l (fitted header (length l) (order_bytes s items spans 0 0 letters))
@@ -61,7 +61,7 @@ module _ (s : List ℕ) (items : Items) (spans : List Span) (letters : List ℕ)
         short : fitted header (length l) whole ≡ refused 18 header
         short = no_room header (length l) whole (omega (arith, m.size within)) (omega (arith, m.size within))
 
-        pub short_answer : flatten.Refused 18 header ≡ flatten_answer (fitted header (length l) (order_bytes s items spans 0 0 letters))
+        pub short_answer : refused 18 header ≡ flatten_answer (fitted header (length l) (order_bytes s items spans 0 0 letters))
         short_answer = refused_answer _ 18 header short
 
         pub short_room : l ≡ flatten_room l (fitted header (length l) (order_bytes s items spans 0 0 letters))
@@ -72,13 +72,13 @@ module _ (s : List ℕ) (items : Items) (spans : List Span) (letters : List ℕ)
         fits_room = omega (arith, m.size within)
 
         module _ (header : ℕ) where
-          fits : fitted header (length l) whole ≡ fine whole
+          fits : fitted header (length l) whole ≡ Ok whole
           fits = all_fits header (length l) whole (omega (arith, m.size within)) fits_room
 
           pub fits_answer : (n : ℕ) → n ≡ length (order_bytes s items spans 0 0 letters)
-              → flatten.Bytes n ≡ flatten_answer (fitted header (length l) (order_bytes s items spans 0 0 letters))
+              → Ok n ≡ flatten_answer (fitted header (length l) (order_bytes s items spans 0 0 letters))
           unfolding flatten_answer
-          fits_answer n q = ap (λ (k : ℕ). flatten.Bytes k) q ∙ ap flatten_answer (sym fits)
+          fits_answer n q = ap (λ (k : ℕ). (Ok k)) q ∙ ap flatten_answer (sym fits)
 
           pub fits_written : (k : List ℕ) → k ≡ sets l 0 (order_bytes s items spans 0 0 letters)
               → k ≡ flatten_room l (fitted header (length l) (order_bytes s items spans 0 0 letters))

@@ -1,11 +1,11 @@
 -- FLATTEN from its steps: 1, then 2 to 14 on the whole file, then 16, then the plain form of the track from its bodies.
 use Prim.Native.Nat.{ℕ, ◌<◌, ◌≤◌}
 use mathlib.Core.Path.{◌≡◌, refl, sym, ◌∙◌, ap}
-use mathlib.Core.Bool.{Bool, true}
+use mathlib.Core.Bool.{true}
 use mathlib.Core.List.{List}
-use mathlib.Core.Option.{Option, none, some}
+use Rattle.std.specs.Prelude.{Option, None, Some, Ok, Err}
 use lib.ListN.{length, take}
-use Rattle.model.specs.Words.{when◌then◌else◌, ◌or◌, ◌<?◌, Checked, Checked.fine, Checked.refused, passed, ◌>>=◌, ◌>>◌}
+use Rattle.model.specs.Words.{when◌then◌else◌, ◌or◌, ◌<?◌, Checked, passed, ◌>>=◌, ◌>>◌, refused}
 use Rattle.model.specs.Item.{is_fine}
 use Rattle.model.specs.Play.{Section}
 use Rattle.model.specs.Order.{play_order, tune_in}
@@ -13,17 +13,11 @@ use Rattle.model.specs.Track.{Track}
 use Rattle.model.specs.File.{File, contents_of, file_of}
 use Rattle.model.specs.Answer.{Performance, ordered, performed, plain_of, flatten_of, flatten_answer, flatten_room}
 use Rattle.model.specs.declared.Bodies.{Bodies}
-use Rattle.model.specs.declared.OpenedTrack.{OpenedTrack}
-use Rattle.model.specs.declared.OpenedTrack.TheVariants as opened
-use Rattle.model.specs.declared.Counted.{Counted}
-use Rattle.model.specs.declared.Counted.TheVariants as counted
-use Rattle.model.specs.declared.FlattenAnswer.{FlattenAnswer}
-use Rattle.model.specs.declared.FlattenAnswer.TheVariants as flatten
+use Rattle.model.specs.declared.Refusal.{Refusal}
 use Rattle.model.proofs.Tests.{by_test}
 use Rattle.reading.specs.Stages.{file_answer}
 use Rattle.reading.proofs.Stated.{stated_past, stated_over, stated_within, stated_small}
 use Rattle.playing.specs.Performing.{bytes_in, Open, Opens, track_named, row_performed}
-use Rattle.playing.proofs.Operations.{bodies_ready}
 use Rattle.playing.proofs.RowPerformed.{stated_fine, stated_refused, opened_track, row_inside, no_track}
 use Rattle.flattening.specs.Orders.{fitted}
 use Rattle.flattening.specs.Flattening.{sections_plain, flattened, bodies_flattened, row_flattened}
@@ -31,29 +25,11 @@ use Rattle.flattening.proofs.Flattened.{refused_answer, refused_room}
 
 -- what is answered and left where an outcome is known under another name
 module _ (one other : Checked (List ℕ)) (same : one ≡ other) where
-  same_answer : (r : FlattenAnswer) → r ≡ flatten_answer one → r ≡ flatten_answer other
+  same_answer : (r : Checked ℕ) → r ≡ flatten_answer one → r ≡ flatten_answer other
   same_answer r e = e ∙ ap flatten_answer same
 
   same_room : (l m : List ℕ) → m ≡ flatten_room l one → m ≡ flatten_room l other
   same_room l m e = e ∙ ap (flatten_room l) same
-
--- THE BODIES of a track
-
-module _ (s : List ℕ) (bodies : Bodies) (body seek : List ℕ) (cut : body ≡ bytes_in s bodies.sequence) (sought : seek ≡ bytes_in s bodies.seek)
-    (flag : Bool) (phrases : bodies.phrases ≡ flag) (room : ℕ) where
-  bodies_are : bodies_flattened bodies.voice flag bodies.header room body seek
-      ≡ bodies_flattened bodies.voice bodies.phrases bodies.header room (bytes_in s bodies.sequence) (bytes_in s bodies.seek)
-  bodies_are = rw (cut, sought, sym phrases) refl
-
-  pub bodies_answer : (r : FlattenAnswer) → r ≡ flatten_answer (bodies_flattened bodies.voice flag bodies.header room body seek)
-      → r ≡ flatten_answer (bodies_flattened bodies.voice bodies.phrases bodies.header room (bytes_in s bodies.sequence) (bytes_in s bodies.seek))
-  bodies_answer = same_answer _ _ bodies_are
-
-  pub bodies_room : (l m : List ℕ) → m ≡ flatten_room l (bodies_flattened bodies.voice flag bodies.header room body seek)
-      → m ≡ flatten_room l (bodies_flattened bodies.voice bodies.phrases bodies.header room (bytes_in s bodies.sequence) (bytes_in s bodies.seek))
-  bodies_room = same_room _ _ bodies_are
-
-pub ruleset bodies_flattened_lem = (bodies_ready, bodies_answer, bodies_room)
 
 -- THE ROW
 
@@ -61,18 +37,18 @@ pub ruleset bodies_flattened_lem = (bodies_ready, bodies_answer, bodies_room)
 abbrev roomy : ℕ → Performance → Checked (List ℕ)
 roomy room performance =
     (when (65536 <? length (plain_of performance)) or (room <? length (plain_of performance)) then refused 18 performance.track.header else passed)
-    >> fine (plain_of performance)
+    >> Ok (plain_of performance)
 
 plain_fitted : (header room : ℕ) (bytes : List ℕ)
-    → ((when (65536 <? length bytes) or (room <? length bytes) then refused 18 header else passed) >> fine bytes) ≡ fitted header room bytes
+    → ((when (65536 <? length bytes) or (room <? length bytes) then refused 18 header else passed) >> Ok bytes) ≡ fitted header room bytes
 unfolding fitted ◌>>◌ when◌then◌else◌
 plain_fitted header room bytes = by_test ((65536 <? length bytes) or (room <? length bytes)) (λ h. simp h) (λ h. simp h)
 
 order_flattened : (track : Track) (room : ℕ) (o : Option (List Section))
     → (ordered track o >>= roomy room) ≡ flattened track.header room track.body track.items o
 unfolding ordered flattened sections_plain plain_of tune_in ◌>>=◌
-order_flattened track room none = refl
-order_flattened track room (some sections) = plain_fitted track.header room (sections_plain track.body track.items sections)
+order_flattened track room None = refl
+order_flattened track room (Some sections) = plain_fitted track.header room (sections_plain track.body track.items sections)
 
 row_refused : (room row : ℕ) (c : Checked File) (number place : ℕ) → row_performed c row ≡ refused number place → row_flattened room c row ≡ refused number place
 unfolding row_flattened ◌>>=◌
@@ -84,8 +60,8 @@ track_flattened : (s : List ℕ) (room : ℕ) (bodies : Bodies) (track : Track) 
 unfolding bodies_flattened play_order
 track_flattened s room bodies track o = rw (o.header, o.phrases, o.body, o.items, o.entries) refl
 
-module _ (s : List ℕ) (row : ℕ) (o : OpenedTrack) (opens : Opens s (track_named (contents_of s) row) o) where
-  module _ (bodies : Bodies) (e : o ≡ opened.At bodies) (room : ℕ) where
+module _ (s : List ℕ) (row : ℕ) (o : Option Bodies) (opens : Opens s (track_named (contents_of s) row) o) where
+  module _ (bodies : Bodies) (e : o ≡ Some bodies) (room : ℕ) where
     row_is : bodies_flattened bodies.voice bodies.phrases bodies.header room (bytes_in s bodies.sequence) (bytes_in s bodies.seek)
         ≡ row_flattened room (contents_of s) row
     unfolding row_flattened
@@ -94,7 +70,7 @@ module _ (s : List ℕ) (row : ℕ) (o : OpenedTrack) (opens : Opens s (track_na
         track_flattened s room bodies found.0 found.2 ∙ sym (order_flattened found.0 room (play_order found.0))
         ∙ ap (λ (c : Checked Performance). c >>= roomy room) (sym found.1)
 
-    pub row_answer : (r : FlattenAnswer)
+    pub row_answer : (r : Checked ℕ)
         → r ≡ flatten_answer (bodies_flattened bodies.voice bodies.phrases bodies.header room (bytes_in s bodies.sequence) (bytes_in s bodies.seek))
         → r ≡ flatten_answer (row_flattened room (contents_of s) row)
     row_answer = same_answer _ _ row_is
@@ -104,11 +80,11 @@ module _ (s : List ℕ) (row : ℕ) (o : OpenedTrack) (opens : Opens s (track_na
         → m ≡ flatten_room l (row_flattened room (contents_of s) row)
     row_room = same_room _ _ row_is
 
-  module _ (ok : is_fine (contents_of s) ≡ true) (room : ℕ) (e : o ≡ opened.Nowhere) where
+  module _ (ok : is_fine (contents_of s) ≡ true) (room : ℕ) (e : o ≡ None) where
     no_row : row_flattened room (contents_of s) row ≡ refused 16 0
     no_row = row_refused room row (contents_of s) 16 0 (no_track s row o opens ok e)
 
-    pub no_row_answer : flatten.Refused 16 0 ≡ flatten_answer (row_flattened room (contents_of s) row)
+    pub no_row_answer : refused 16 0 ≡ flatten_answer (row_flattened room (contents_of s) row)
     no_row_answer = refused_answer _ 16 0 no_row
 
     pub no_row_room : (l : List ℕ) → l ≡ flatten_room l (row_flattened room (contents_of s) row)
@@ -118,15 +94,15 @@ pub ruleset rows_flattened = (row_inside, row_answer, row_room, no_row_answer, n
 
 -- THE STATED BYTES
 
-module _ (s : List ℕ) (r : Counted) (told : r ≡ file_answer (contents_of s)) (room row number place : ℕ) (e : r ≡ counted.Refused number place) where
-  stated : row_flattened room (contents_of s) row ≡ refused number place
-  stated = row_refused room row (contents_of s) number place (stated_refused s r told row number place e)
+module _ (s : List ℕ) (r : Checked ℕ) (told : r ≡ file_answer (contents_of s)) (room row : ℕ) (why : Refusal) (e : r ≡ Err why) where
+  stated : row_flattened room (contents_of s) row ≡ Err why
+  stated = row_refused room row (contents_of s) why.number why.place (stated_refused s r told row why e)
 
-  pub stated_answer : flatten.Refused number place ≡ flatten_answer (row_flattened room (contents_of s) row)
-  stated_answer = refused_answer _ number place stated
+  pub stated_answer : Err why ≡ flatten_answer (row_flattened room (contents_of s) row)
+  stated_answer = refused_answer _ why.number why.place stated
 
   pub stated_room : (l : List ℕ) → l ≡ flatten_room l (row_flattened room (contents_of s) row)
-  stated_room = refused_room _ number place stated
+  stated_room = refused_room _ why.number why.place stated
 
 pub ruleset stated_flattened = (stated_fine, stated_answer, stated_room)
 
@@ -145,13 +121,13 @@ module _ (buffer : List ℕ) (n row room : ℕ) where
   unfolding row_flattened row_performed ◌>>=◌
   over h k = flatten_is buffer n row room (refused 1 0) (stated_over buffer n h k)
 
-  pub past_answer : length buffer < n → flatten.Refused 1 0 ≡ flatten_answer (flatten_of buffer n row room)
+  pub past_answer : length buffer < n → refused 1 0 ≡ flatten_answer (flatten_of buffer n row room)
   past_answer h = refused_answer _ 1 0 (past h)
 
   pub past_room : (l : List ℕ) → length buffer < n → l ≡ flatten_room l (flatten_of buffer n row room)
   past_room l h = refused_room _ 1 0 (past h) l
 
-  pub over_answer : n ≤ length buffer → 65536 < n → flatten.Refused 1 0 ≡ flatten_answer (flatten_of buffer n row room)
+  pub over_answer : n ≤ length buffer → 65536 < n → refused 1 0 ≡ flatten_answer (flatten_of buffer n row room)
   over_answer h k = refused_answer _ 1 0 (over h k)
 
   pub over_room : (l : List ℕ) → n ≤ length buffer → 65536 < n → l ≡ flatten_room l (flatten_of buffer n row room)
@@ -161,7 +137,7 @@ module _ (buffer : List ℕ) (n row room : ℕ) where
     within : row_flattened room (contents_of (take n buffer)) row ≡ flatten_of buffer n row room
     within = sym (flatten_is buffer n row room (contents_of (take n buffer)) (stated_within buffer n h k))
 
-    pub whole_answer : (r : FlattenAnswer) → r ≡ flatten_answer (row_flattened room (contents_of (take n buffer)) row)
+    pub whole_answer : (r : Checked ℕ) → r ≡ flatten_answer (row_flattened room (contents_of (take n buffer)) row)
         → r ≡ flatten_answer (flatten_of buffer n row room)
     whole_answer = same_answer _ _ within
 

@@ -1,15 +1,16 @@
 -- The plain form of an order, span after span: the invariant of `write_order`'s loop, that what is still to be stored makes the whole, and
 -- what each turn and the end make of it.
-use Prim.Native.Nat.{ℕ, suc, ◌+◌, ◌-◌, ◌*◌, ◌<◌, ◌≤◌}
+use Prim.Native.Nat.{ℕ, suc, ◌+◌, ◌-◌, ◌<◌, ◌≤◌}
 use mathlib.Core.List.{List, [], ◌∷◌, ◌++◌, map, map-append}
-use mathlib.Core.Path.{◌≡◌, refl, sym, ◌∙◌, ap, ap₂}
+use mathlib.Core.Path.{◌≡◌, refl, sym, ◌∙◌, ap, ap₂, subst}
 use mir.Syntax.{w64}
 use mir.Val.{Fits}
-use lib.ListN.{length, drop, set, replicate, length-append, length-set, length-replicate, get_or-replicate}
+use lib.ListN.{length, get_or, drop, set, replicate, length-append, length-set, length-replicate}
 use lib.Seq.{drop-cons, drop-length, get_or-set_same, get_or-set_other, sets, length-sets}
 use native.Mathlib.Nat.{add-zero, zero-add}
 use native.Mathlib.Omega.{arith}
 use borrow.Author.Tests.{eqb-true, eqb-false}
+use Rattle.std.specs.Prelude.{Option, None, Some}
 use Rattle.model.specs.Words.{◌≡?◌}
 use Rattle.model.specs.Bytes.{◌!◌}
 use Rattle.model.specs.Item.{items_of, Item.end_mark}
@@ -24,6 +25,7 @@ use Rattle.model.proofs.Tests.{by_test}
 use Rattle.model.proofs.Stores.{sets_append}
 use Rattle.sections.specs.Spans.{Items, span_rows, Playable, SpanRises}
 use Rattle.plain.proofs.PlainItems.{bytes_append}
+use Rattle.playing.proofs.Writing.{none_known}
 use Rattle.playing.specs.Performing.{span_at, AllPlayable, lasts_together, rows_together, AllRise}
 use Rattle.flattening.specs.Parts.{told, part_bytes, part_last, span_shape, span_bytes, Written, WrittenWhereKnown}
 use Rattle.flattening.specs.Orders.{order_bytes, shape_at, AllShaped}
@@ -84,13 +86,13 @@ module _ (voice : Voice) (s : List ℕ) (spans : List Span) (shapes : List Shape
   abbrev items : Items
   items = items_of voice s
 
-  pub record Storing (l out places : List ℕ) (at before past i : ℕ) : Type 0 where
+  pub record Storing (l out : List ℕ) (places : List (Option ℕ)) (at before past i : ℕ) : Type 0 where
     pub bytes : (k : ℕ) → letters ! k < 256
     pub playable : AllPlayable (items_of voice s) (length s) spans letters
     pub rises : AllRise (items_of voice s) spans letters
     pub shaped : AllShaped s (items_of voice s) spans shapes letters
     pub slots : length places ≡ 256
-    pub known : (slot : ℕ) → slot < 256 → WrittenWhereKnown (span_bytes s (items_of voice s) (span_at spans slot)) (places ! slot) out at
+    pub known : (slot : ℕ) → WrittenWhereKnown (span_bytes s (items_of voice s) (span_at spans slot)) (get_or places slot None) out at
     pub listed : length letters ≤ 65536
     pub within : i ≤ length letters
     pub early : past ≤ before
@@ -102,15 +104,15 @@ module _ (voice : Voice) (s : List ℕ) (spans : List Span) (shapes : List Shape
 
   pub store_starts : (l : List ℕ) → ((k : ℕ) → letters ! k < 256) → AllPlayable (items_of voice s) (length s) spans letters → AllRise (items_of voice s) spans letters
       → AllShaped s (items_of voice s) spans shapes letters → length letters ≤ 65536 → lasts_together spans letters ≤ 4611686018427387904 → length (order_bytes s (items_of voice s) spans 0 0 letters) ≤ length l
-      → Storing l l (replicate 256 0) 0 0 0 0
+      → Storing l l (replicate 256 None) 0 0 0 0
   store_starts l bytes playable rises shaped listed late room =
       record {
         bytes = bytes;
         playable = playable;
         rises = rises;
         shaped = shaped;
-        slots = length-replicate {A = ℕ} 256 0;
-        known = λ slot small known. absurd (known (get_or-replicate {A = ℕ} 256 slot 0 0 small));
+        slots = length-replicate {A = Option ℕ} 256 None;
+        known = λ slot place is. absurd (none_known 256 slot place is);
         listed = listed;
         within = omega arith;
         early = omega arith;
@@ -121,30 +123,12 @@ module _ (voice : Voice) (s : List ℕ) (spans : List Span) (shapes : List Shape
         whole = refl;
       }
 
-  module _ (l out places : List ℕ) (at before past i : ℕ) (w : Storing l out places at before past i) where
-    pub store_slot : letters ! i < 256
-    store_slot = w.bytes i
-
-    pub store_slot_fits : Fits w64 (letters ! i)
-    store_slot_fits = record { fits = omega (arith, w.bytes i) }
-
-    pub store_span_fits : Fits w64 (letters ! i * 40)
-    store_span_fits = record { fits = omega (arith, w.bytes i) }
-
-    pub store_shape_fits : Fits w64 (letters ! i * 32)
-    store_shape_fits = record { fits = omega (arith, w.bytes i) }
-
-    pub store_place_fits : Fits w64 (letters ! i * 8)
-    store_place_fits = record { fits = omega (arith, w.bytes i) }
-
+  module _ (l out : List ℕ) (places : List (Option ℕ)) (at before past i : ℕ) (w : Storing l out places at before past i) where
     pub store_slots : letters ! i < length places
     store_slots = omega (arith, w.bytes i, w.slots)
 
-    pub store_known : WrittenWhereKnown (span_bytes s (items_of voice s) (span_at spans (letters ! i))) (places ! (letters ! i)) out at
-    store_known = w.known (letters ! i) (w.bytes i)
-
-    pub store_early : past ≤ before
-    store_early = w.early
+    pub store_known : WrittenWhereKnown (span_bytes s (items_of voice s) (span_at spans (letters ! i))) (get_or places (letters ! i) None) out at
+    store_known = w.known (letters ! i)
 
     -- after the last letter
     module _ (over : length letters ≤ i) where
@@ -204,9 +188,6 @@ module _ (voice : Voice) (s : List ℕ) (spans : List Span) (shapes : List Shape
       pub store_before_fits : Fits w64 (before + (span_at spans (letters ! i)).lasts)
       store_before_fits = record { fits = omega (arith, w.late, lasts_next) }
 
-      pub store_nears : Fits w64 (i + 1)
-      store_nears = record { fits = omega (arith, w.listed) }
-
       module _ (told_at : ℕ) (a : told_at ≡ at + length (part_bytes s past (span_rows (items_of voice s) (span_at spans (letters ! i)) before))) where
         shape_bytes : (shape_at shapes (letters ! i)).bytes ≡ (span_shape s items span_here).bytes
         shape_bytes = ap (λ (x : Shape). x.bytes) store_shape
@@ -215,28 +196,32 @@ module _ (voice : Voice) (s : List ℕ) (spans : List Span) (shapes : List Shape
         store_bytes_low = omega (arith, shape_bytes, a, span_bytes_within s items span_here before past)
 
         -- where a span's bytes are known to stand, one letter on
-        still_known : (slot : ℕ) → slot < 256
-            → WrittenWhereKnown (span_bytes s items (span_at spans slot)) (places ! slot) (sets out at (part_bytes s past rows_here)) told_at
-        still_known slot small =
-            written_kept (span_bytes s items (span_at spans slot)) (places ! slot) out at (part_bytes s past rows_here) told_at (omega (arith, a)) (w.known slot small)
+        still_known : (slot : ℕ)
+            → WrittenWhereKnown (span_bytes s items (span_at spans slot)) (get_or places slot None) (sets out at (part_bytes s past rows_here)) told_at
+        still_known slot =
+            written_kept (span_bytes s items (span_at spans slot)) (get_or places slot None) out at (part_bytes s past rows_here) told_at (omega (arith, a)) (w.known slot)
 
-        now_known : Written (span_bytes s items span_here) (told_at - (shape_at shapes (letters ! i)).bytes) (sets out at (part_bytes s past rows_here)) told_at
-        now_known = rw (shape_bytes, a) (span_written s items span_here before past out at store_room)
+        abbrev place_here : ℕ
+        place_here = told_at - (shape_at shapes (letters ! i)).bytes
 
-        known_next : (slot : ℕ) → slot < 256
-            → WrittenWhereKnown (span_bytes s items (span_at spans slot)) (set places (letters ! i) (told_at - (shape_at shapes (letters ! i)).bytes) ! slot)
+        now_known : WrittenWhereKnown (span_bytes s items span_here) (Some place_here) (sets out at (part_bytes s past rows_here)) told_at
+        now_known place is =
+            let same : place_here ≡ place = cc in
+            subst (λ (p : ℕ). Written (span_bytes s items span_here) p (sets out at (part_bytes s past rows_here)) told_at) same
+            (rw (shape_bytes, a) (span_written s items span_here before past out at store_room))
+
+        known_next : (slot : ℕ)
+            → WrittenWhereKnown (span_bytes s items (span_at spans slot)) (get_or (set places (letters ! i) (Some place_here)) slot None)
             (sets out at (part_bytes s past rows_here)) told_at
-        known_next slot small =
-            let place = told_at - (shape_at shapes (letters ! i)).bytes in
+        known_next slot =
             by_test (slot ≡? letters ! i)
-            (λ t. let e = eqb-true slot (letters ! i) t in
-            rw (e, get_or-set_same places (letters ! i) place 0 store_slots) (λ known. now_known))
-            (λ t. let e = eqb-false slot (letters ! i) t in rw (get_or-set_other places (letters ! i) slot place 0 e) (still_known slot small))
+            (λ t. let e = eqb-true slot (letters ! i) t in rw (e, get_or-set_same places (letters ! i) (Some place_here) None store_slots) now_known)
+            (λ t. let e = eqb-false slot (letters ! i) t in rw (get_or-set_other places (letters ! i) slot (Some place_here) None e) (still_known slot))
 
         pub store_turns : (m : List ℕ) (told-past : ℕ)
             → told-past ≡ part_last s past (span_rows (items_of voice s) (span_at spans (letters ! i)) before)
             → m ≡ sets out at (part_bytes s past (span_rows (items_of voice s) (span_at spans (letters ! i)) before))
-            → Storing l m (set places (letters ! i) (told_at - (shape_at shapes (letters ! i)).bytes)) told_at (before + (span_at spans (letters ! i)).lasts) told-past (i + 1)
+            → Storing l m (set places (letters ! i) (Some (told_at - (shape_at shapes (letters ! i)).bytes))) told_at (before + (span_at spans (letters ! i)).lasts) told-past (i + 1)
         store_turns m told-past p e =
             let long : length m ≡ length out = ap length e ∙ length-sets out at (part_bytes s past rows_here) in
             let later : ℕ → List ℕ = λ last. order_bytes s items spans last (before + span_here.lasts) (drop (i + 1) letters) in
@@ -252,8 +237,8 @@ module _ (voice : Voice) (s : List ℕ) (spans : List Span) (shapes : List Shape
               playable = w.playable;
               rises = w.rises;
               shaped = w.shaped;
-              slots = length-set places (letters ! i) (told_at - (shape_at shapes (letters ! i)).bytes) ∙ w.slots;
-              known = λ slot small. rw e (known_next slot small);
+              slots = length-set places (letters ! i) (Some place_here) ∙ w.slots;
+              known = λ slot. rw e (known_next slot);
               listed = w.listed;
               within = omega arith;
               early = omega (arith, p, last_within s past before (before + span_here.lasts) rows_here w.early (w.rises i here before));
@@ -264,26 +249,4 @@ module _ (voice : Voice) (s : List ℕ) (spans : List Span) (shapes : List Shape
               whole = stored ∙ w.whole;
             }
 
-pub ruleset storing = (
-  store_slot,
-  store_slot_fits,
-  store_span_fits,
-  store_shape_fits,
-  store_place_fits,
-  store_slots,
-  store_known,
-  store_early,
-  store_rest_room,
-  store_mark_room,
-  store_size,
-  store_ends,
-  store_playable,
-  store_shape,
-  store_rises,
-  store_late,
-  store_room,
-  store_before_fits,
-  store_nears,
-  store_bytes_low,
-  store_turns,
-)
+pub ruleset storing = (store_slots, store_known, store_rest_room, store_mark_room, store_size, store_ends, store_playable, store_shape, store_rises, store_late, store_room, store_before_fits, store_bytes_low, store_turns)

@@ -7,7 +7,7 @@ use mathlib.Core.Path.{◌≡◌, refl, sym, ◌∙◌, ap}
 use lib.ListN.{length}
 use native.Mathlib.Nat.{zero-add}
 use native.Mathlib.Omega.{arith}
-use Rattle.model.specs.Words.{when◌then◌else◌}
+use Rattle.model.specs.Words.{when◌then◌else◌, Checked}
 use Rattle.model.specs.Bytes.{◌!◌}
 use Rattle.model.specs.Item.{Item.timed, Item.end_mark, item_at, body_of, is_fine, items_of}
 use Rattle.model.specs.Play.{At}
@@ -16,8 +16,10 @@ use Rattle.model.specs.Word.{is_message}
 use Rattle.model.specs.declared.Voice.{Voice}
 use Rattle.model.specs.declared.Event.{Event}
 use Rattle.model.specs.declared.Outline.{Outline}
+use Rattle.std.specs.Prelude.{Ok, Err}
+use Rattle.model.specs.declared.Refusal.{Refusal}
 use Rattle.model.specs.declared.ReadItem.{ReadItem}
-use Rattle.model.specs.declared.ReadItem.TheVariants.{Timed, EndMark, Refused}
+use Rattle.model.specs.declared.ReadItem.TheVariants.{Timed, EndMark}
 use Rattle.model.specs.declared.Shape.{Shape}
 use Rattle.model.specs.declared.Span.{Span}
 use Rattle.writing.specs.Parts.{event_size}
@@ -111,13 +113,16 @@ module _ (voice : Voice) (s : List ℕ) (span : Span) where
           whole = ap (λ (x : List (At Event)). shaped span.lasts (outlined s outline x)) (sym same) ∙ r.whole;
         }
 
-    module _ (i : ReadItem) (is : i ≡ item_at voice s place) where
-      module _ (duration next : ℕ) (event : Event) (e : i ≡ Timed duration event next) where
+    module _ (i : Checked ReadItem) (is : i ≡ item_at voice s place) where
+      module _ (read : ReadItem) (duration next : ℕ) (event : Event) (was : i ≡ Ok read) (so : read ≡ Timed duration event next) where
+        timed_read : i ≡ Ok (Timed duration event next)
+        timed_read = was ∙ ap Ok so
+
         onward : Onward voice s span.start place time r.ahead (timed duration event) next (time + duration)
-        onward = timed_onward voice s span.start place time r.ahead duration next event (sym is ∙ e)
+        onward = timed_onward voice s span.start place time r.ahead duration next event (sym is ∙ timed_read)
 
         pub shape_late : span.start ≤ time + duration
-        shape_late = timed_late voice s span.start place time r.ahead duration next event (sym is ∙ e)
+        shape_late = timed_late voice s span.start place time r.ahead duration next event (sym is ∙ timed_read)
 
         pub shape_few : outline.bytes ≤ 4611686018427387904
         shape_few = omega (arith, r.small, in_place voice s span.start place time r.ahead)
@@ -130,7 +135,7 @@ module _ (voice : Voice) (s : List ℕ) (span : Span) where
 
         pub shape_silent : (b : Bool) → b ≡ is_message event → b ≡ false → Shaping voice s span outline count next (time + duration)
         shape_silent b q h =
-            silent next (time + duration) onward.0 (omega (arith, timed_nears voice s place i is duration next event e)) (omega arith)
+            silent next (time + duration) onward.0 (omega (arith, timed_nears voice s place i is duration next event timed_read)) (omega arith)
             (nop_next 0 span.start count time place r.ahead.rest onward.0.rest duration event onward.1 (sym q ∙ h))
 
         module _ (b : Bool) (q : b ≡ is_message event) (h : b ≡ true) (more : count ≡ 0 → ⊥) where
@@ -146,7 +151,7 @@ module _ (voice : Voice) (s : List ℕ) (span : Span) where
               ∙ ap (λ (n : ℕ). record { step = n; event = event } ∷ later) (zero-add step)
 
           sized : length (content_bytes (content_of s event)) ≡ event_size event
-          sized = event_length_lem voice s event (read_fits s r.ahead.bytes voice place duration event next (sym is ∙ e))
+          sized = event_length_lem voice s event (read_fits s r.ahead.bytes voice place duration event next (sym is ∙ timed_read))
 
           pub shape_again : (more : Outline) → more ≡ joined outline (time + duration - span.start) (event_size event)
               → more.last ≡ time + duration - span.start → more.bytes ≤ outline.bytes + (time + duration - span.start + 260)
@@ -158,22 +163,25 @@ module _ (voice : Voice) (s : List ℕ) (span : Span) where
               let near = in_time voice s span.start next (time + duration) onward.0 in
               record {
                 ahead = onward.0;
-                small = omega (arith, r.small, timed_nears voice s place i is duration next event e, near, bytes);
+                small = omega (arith, r.small, timed_nears voice s place i is duration next event timed_read, near, bytes);
                 early = omega (arith, last);
                 whole = ap (shaped span.lasts) (sym whole_rows) ∙ r.whole;
               }
 
-      module _ (next : ℕ) (e : i ≡ EndMark next) where
+      module _ (read : ReadItem) (next : ℕ) (was : i ≡ Ok read) (so : read ≡ EndMark next) where
+        mark_read : i ≡ Ok (EndMark next)
+        mark_read = was ∙ ap Ok so
+
         marked : Onward voice s span.start place time r.ahead end_mark next time
-        marked = mark_onward voice s span.start place time r.ahead next (sym is ∙ e)
+        marked = mark_onward voice s span.start place time r.ahead next (sym is ∙ mark_read)
 
         pub shape_marks : Shaping voice s span outline count next time
         shape_marks =
-            silent next time marked.0 (omega (arith, mark_nears voice s place i is next e)) (omega arith)
+            silent next time marked.0 (omega (arith, mark_nears voice s place i is next mark_read)) (omega arith)
             (mark_next 0 span.start count time place r.ahead.rest marked.0.rest marked.1)
 
-      pub shape_never : (shape : Shape) (number there : ℕ) → place < length s → i ≡ Refused number there → shape ≡ span_shape s (items_of voice s) span
-      shape_never shape number there inside e = absurd (never_refused voice s span.start place time r.ahead number there inside (sym is ∙ e))
+      pub shape_never : (shape : Shape) (why : Refusal) → place < length s → i ≡ Err why → shape ≡ span_shape s (items_of voice s) span
+      shape_never shape why inside e = absurd (never_refused voice s span.start place time r.ahead why.number why.place inside (sym is ∙ e))
 
 pub ruleset shapes = (shape_late, shape_few, shape_grows, shape_near, timed_nears, shape_silent, shape_again, mark_nears, shape_marks)
 

@@ -16,8 +16,11 @@ use Rattle.model.specs.Word.{is_message}
 use Rattle.model.specs.Writing.{event_fits, timed_bytes}
 use Rattle.model.specs.declared.Voice.{Voice}
 use Rattle.model.specs.declared.Event.{Event}
+use Rattle.std.specs.Prelude.{Ok, Err}
+use Rattle.model.specs.Words.{Checked}
+use Rattle.model.specs.declared.Refusal.{Refusal}
 use Rattle.model.specs.declared.ReadItem.{ReadItem}
-use Rattle.model.specs.declared.ReadItem.TheVariants.{Timed, EndMark, Refused}
+use Rattle.model.specs.declared.ReadItem.TheVariants.{Timed, EndMark}
 use Rattle.model.specs.declared.Span.{Span}
 use Rattle.model.proofs.Stores.{sets_append}
 use Rattle.inverse.proofs.Fitting.{read_fits}
@@ -160,16 +163,19 @@ module _ (voice : Voice) (s : List ℕ) (span : Span) (before past : ℕ) (l : L
           whole = ap (λ (x : List (At Event)). sets out here (part_bytes s last x)) (sym same) ∙ r.whole;
         }
 
-    module _ (i : ReadItem) (is : i ≡ item_at voice s place) where
-      module _ (duration next : ℕ) (event : Event) (e : i ≡ Timed duration event next) where
+    module _ (i : Checked ReadItem) (is : i ≡ item_at voice s place) where
+      module _ (read : ReadItem) (duration next : ℕ) (event : Event) (was : i ≡ Ok read) (so : read ≡ Timed duration event next) where
+        timed_read : i ≡ Ok (Timed duration event next)
+        timed_read = was ∙ ap Ok so
+
         onward : Onward voice s span.start place time r.ahead (timed duration event) next (time + duration)
-        onward = timed_onward voice s span.start place time r.ahead duration next event (sym is ∙ e)
+        onward = timed_onward voice s span.start place time r.ahead duration next event (sym is ∙ timed_read)
 
         pub tell_fits : event_fits voice s event ≡ true
-        tell_fits = read_fits s r.ahead.bytes voice place duration event next (sym is ∙ e)
+        tell_fits = read_fits s r.ahead.bytes voice place duration event next (sym is ∙ timed_read)
 
         pub tell_late : span.start ≤ time + duration
-        tell_late = timed_late voice s span.start place time r.ahead duration next event (sym is ∙ e)
+        tell_late = timed_late voice s span.start place time r.ahead duration next event (sym is ∙ timed_read)
 
         pub tell_gap : last ≤ before + (time + duration - span.start)
         tell_gap = omega (arith, r.early)
@@ -217,18 +223,21 @@ module _ (voice : Voice) (s : List ℕ) (span : Span) (before past : ℕ) (l : L
                 whole = stored ∙ r.whole;
               }
 
-      module _ (next : ℕ) (e : i ≡ EndMark next) where
+      module _ (read : ReadItem) (next : ℕ) (was : i ≡ Ok read) (so : read ≡ EndMark next) where
+        mark_read : i ≡ Ok (EndMark next)
+        mark_read = was ∙ ap Ok so
+
         marked : Onward voice s span.start place time r.ahead end_mark next time
-        marked = mark_onward voice s span.start place time r.ahead next (sym is ∙ e)
+        marked = mark_onward voice s span.start place time r.ahead next (sym is ∙ mark_read)
 
         pub tell_marks : Telling voice s span before past l at out here last count next time
         tell_marks =
             silent next time marked.0 (omega arith)
             (mark_next before span.start count time place r.ahead.rest marked.0.rest marked.1)
 
-      module _ (number there : ℕ) (inside : place < length s) (e : i ≡ Refused number there) where
+      module _ (why : Refusal) (inside : place < length s) (e : i ≡ Err why) where
         never : ⊥
-        never = never_refused voice s span.start place time r.ahead number there inside (sym is ∙ e)
+        never = never_refused voice s span.start place time r.ahead why.number why.place inside (sym is ∙ e)
 
         pub never_at : here ≡ at + length (part_bytes s past (span_rows (items_of voice s) span before))
         never_at = absurd never

@@ -3,12 +3,12 @@
 use Prim.Native.Nat.{ℕ, ◌+◌, ◌<◌, ◌≤◌}
 use mathlib.Core.Bool.{true, false}
 use mathlib.Core.List.{List, [], ◌∷◌, ◌++◌, map}
-use mathlib.Core.Option.{none, some}
+use Rattle.std.specs.Prelude.{None, Some}
 use mathlib.Core.Path.{◌≡◌, refl, sym, ◌∙◌, ap, ap₂, subst}
 use lib.ListN.{length, take, replicate}
 use native.Mathlib.Nat.{zero-add}
 use native.Mathlib.Omega.{arith}
-use Rattle.model.specs.Words.{sum, ◌otherwise◌, Checked.refused}
+use Rattle.model.specs.Words.{sum, ◌otherwise◌, Checked, refused}
 use Rattle.model.specs.Bytes.{◌!◌}
 use Rattle.model.specs.Item.{items_of}
 use Rattle.model.specs.Seek.{start_point, stop_point}
@@ -22,8 +22,6 @@ use Rattle.model.specs.declared.Voice.{Voice}
 use Rattle.model.specs.declared.Event.{Event}
 use Rattle.model.specs.declared.Span.{Span}
 use Rattle.model.specs.declared.FoundSpans.{FoundSpans}
-use Rattle.model.specs.declared.FlattenAnswer.{FlattenAnswer}
-use Rattle.model.specs.declared.FlattenAnswer.TheVariants as flatten
 use Rattle.sections.specs.Spans.{Items, span_of, span_rows, Playable, Small, SpanRises}
 use Rattle.sections.proofs.Stretches.{span_sounds}
 use Rattle.sections.proofs.Tunes.{stream_section_rises}
@@ -49,12 +47,12 @@ module _ (voice : Voice) (header : ℕ) (body seek room : List ℕ) where
   items = items_of voice body
 
   -- no order list
-  module _ (none_there : order_of true (items_of voice body) (entries_said true seek) ≡ none) where
+  module _ (none_there : order_of true (items_of voice body) (entries_said true seek) ≡ None) where
     no_order : bodies_flattened voice true header (length room) body seek ≡ refused 17 header
     unfolding bodies_flattened flattened
     no_order = rw none_there
 
-    pub unordered_answer : flatten.Refused 17 header ≡ flatten_answer (bodies_flattened voice true header (length room) body seek)
+    pub unordered_answer : refused 17 header ≡ flatten_answer (bodies_flattened voice true header (length room) body seek)
     unordered_answer = refused_answer _ 17 header no_order
 
     pub unordered_room : room ≡ flatten_room room (bodies_flattened voice true header (length room) body seek)
@@ -82,7 +80,7 @@ module _ (voice : Voice) (header : ℕ) (body seek room : List ℕ) where
       pub phrases_rise : AllRise (items_of voice body) found.spans front
       phrases_rise = heard.rise
 
-      module _ (order : order_of true (items_of voice body) (entries_said true seek) ≡ some (map (letter_section (items_of voice body) (entries_said true seek)) letters)) where
+      module _ (order : order_of true (items_of voice body) (entries_said true seek) ≡ Some (map (letter_section (items_of voice body) (entries_said true seek)) letters)) where
         phrases_are : fitted header (length room) (order_bytes body items found.spans 0 0 front) ≡ bodies_flattened voice true header (length room) body seek
         unfolding bodies_flattened flattened
         phrases_are =
@@ -92,7 +90,7 @@ module _ (voice : Voice) (header : ℕ) (body seek room : List ℕ) where
             (subst (Spanned items (length body) (entries_said true seek) found.spans) (sym are) finds.spanned)))
             ∙ sym (rw order refl)
 
-        pub phrases_answer : (r : FlattenAnswer)
+        pub phrases_answer : (r : Checked ℕ)
             → r ≡ flatten_answer (fitted header (length room) (order_bytes body (items_of voice body) found.spans 0 0 front))
             → r ≡ flatten_answer (bodies_flattened voice true header (length room) body seek)
         phrases_answer r e = e ∙ ap flatten_answer phrases_are
@@ -136,7 +134,7 @@ module _ (voice : Voice) (header : ℕ) (body seek room : List ℕ) where
     unfolding bodies_flattened flattened order_of
     stream_are = ap (fitted header (length room)) (order_plain body items (replicate 256 span) (replicate 1 0) (section ∷ []) stream_tune)
 
-    pub stream_answer : (r : FlattenAnswer)
+    pub stream_answer : (r : Checked ℕ)
         → r ≡ flatten_answer (fitted header (length room) (order_bytes body (items_of voice body) (replicate 256 span) 0 0 (replicate 1 0)))
         → r ≡ flatten_answer (bodies_flattened voice false header (length room) body seek)
     stream_answer r e = e ∙ ap flatten_answer stream_are

@@ -3,9 +3,10 @@ use Prim.Native.Nat.{ℕ, ◌+◌, ◌-◌, ◌≤◌}
 use mathlib.Core.Bool.{true, false}
 use mathlib.Core.List.{List, [], ◌++◌}
 use mathlib.Core.Path.{◌≡◌, refl, sym, ◌∙◌, ap, ap₂}
-use lib.ListN.{length, length-append}
-use lib.Seq.{sets, length-sets}
+use lib.ListN.{length, drop, length-append}
+use lib.Seq.{paste, sets, length-sets}
 use native.Mathlib.Omega.{arith}
+use Rattle.std.specs.Prelude.{Option}
 use Rattle.model.specs.Bytes.{part}
 use Rattle.model.specs.Play.{At}
 use Rattle.model.specs.declared.Event.{Event}
@@ -13,17 +14,19 @@ use Rattle.model.specs.declared.Shape.{Shape}
 use Rattle.model.specs.declared.Span.{Span}
 use Rattle.model.proofs.Stores.{sets_append}
 use Rattle.sections.specs.Spans.{Items, span_rows, SpanRises}
-use Rattle.sections.proofs.Copying.{part_before, part_stored}
+use Rattle.sections.proofs.Copying.{part_copied, part_before, part_stored}
 use Rattle.flattening.specs.Parts.{part_bytes, part_last, gap_bytes, span_shape, span_bytes, Written, WrittenWhereKnown}
 use Rattle.flattening.proofs.Telling.{none_told, none_last}
 use Rattle.flattening.proofs.Shapes.{span_bytes_lem, span_size, span_tail, span_silent, span_counted, span_ends, span_lead_within, span_tail_within, last_within}
 
 -- a gap, and bytes that are copied after it
 pub copy_wrote : (l k m : List ℕ) (at gap from count middle : ℕ) → from + count ≤ at → middle ≡ at + length (gap_bytes gap) → k ≡ sets l at (gap_bytes gap)
-    → m ≡ sets k middle (part k from count) → m ≡ sets l at (gap_bytes gap ++ part l from count)
-copy_wrote l k m at gap from count middle behind after p q =
+    → at + (length (gap_bytes gap) + count) ≤ length l → m ≡ paste k middle (drop from k) (from + count - from)
+    → m ≡ sets l at (gap_bytes gap ++ part l from count)
+copy_wrote l k m at gap from count middle behind after p room q =
+    let long : length k ≡ length l = ap length p ∙ length-sets l at (gap_bytes gap) in
     let same : part k from count ≡ part l from count = ap (λ (x : List ℕ). part x from count) p ∙ part_before l from count at (gap_bytes gap) behind in
-    q ∙ ap (sets k middle) same ∙ rw (p, after) (sets_append l at (gap_bytes gap) (part l from count))
+    part_copied k m from count middle (omega arith) (omega arith) q ∙ ap (sets k middle) same ∙ rw (p, after) (sets_append l at (gap_bytes gap) (part l from count))
 
 module _ (s : List ℕ) (items : Items) (span : Span) (shape : Shape) (is : shape ≡ span_shape s items span) (before past : ℕ) where
   abbrev rows : List (At Event)
@@ -81,14 +84,14 @@ module _ (s : List ℕ) (items : Items) (span : Span) (shape : Shape) (is : shap
           → n ≡ at + length (part_bytes s past (span_rows items span before))
       again_next n e = omega (arith, many)
 
-      module _ (place : ℕ) (written : WrittenWhereKnown (span_bytes s items span) place out at) (known : place ≡ 0 → ⊥) where
+      module _ (place : ℕ) (written : Written (span_bytes s items span) place out at) where
         pub again_behind : place + shape.bytes ≤ at
-        again_behind = omega (arith, bytes_are, (written known).inside)
+        again_behind = omega (arith, bytes_are, written.inside)
 
         pub again_wrote : (m : List ℕ) → m ≡ sets out at (gap_bytes (before - past + shape.lead) ++ part out place shape.bytes)
             → m ≡ sets out at (part_bytes s past (span_rows items span before))
         again_wrote m e =
-            let stand : part out place shape.bytes ≡ span_bytes s items span = ap (part out place) bytes_are ∙ (written known).stand in
+            let stand : part out place shape.bytes ≡ span_bytes s items span = ap (part out place) bytes_are ∙ written.stand in
             e ∙ ap₂ (λ (g : ℕ) (bytes : List ℕ). sets out at (gap_bytes g ++ bytes)) gap_is stand
             ∙ ap (sets out at) (sym (span_bytes_lem s items span before past loud))
 
@@ -107,10 +110,10 @@ pub ruleset again = (
 
 -- WHERE BYTES STAND: when more is stored behind them, and once they are written
 
-pub written_kept : (bytes : List ℕ) (place : ℕ) (out : List ℕ) (at : ℕ) (more : List ℕ) (past : ℕ) → at ≤ past → WrittenWhereKnown bytes place out at
-    → WrittenWhereKnown bytes place (sets out at more) past
-written_kept bytes place out at more past on written known =
-    let w = written known in
+pub written_kept : (bytes : List ℕ) (known : Option ℕ) (out : List ℕ) (at : ℕ) (more : List ℕ) (past : ℕ) → at ≤ past → WrittenWhereKnown bytes known out at
+    → WrittenWhereKnown bytes known (sets out at more) past
+written_kept bytes known out at more past on written place is =
+    let w = written place is in
     record { inside = omega (arith, w.inside); stand = part_before out place (length bytes) at more w.inside ∙ w.stand }
 
 written_last : (out : List ℕ) (at : ℕ) (front bytes : List ℕ) → at + length (front ++ bytes) ≤ length out

@@ -1,7 +1,6 @@
 -- What the operation speaks of beside the definitions of the model: the plain form of a track, from its bodies and from its row.
-use Rattle.std.specs.Prelude.{ℕ, Bool, List, length}
-use Rattle.std.proofs.Math.Option.{Option, none, some}
-use Rattle.model.specs.Words.{when◌then◌else◌, ◌or◌, ◌<?◌, Checked, Checked.fine, Checked.refused, passed, ◌>>=◌, ◌>>◌}
+use Rattle.std.specs.Prelude.{ℕ, Bool, List, length, Option, None, Some, Ok}
+use Rattle.model.specs.Words.{when◌then◌else◌, ◌or◌, ◌<?◌, Checked, passed, ◌>>=◌, ◌>>◌, refused}
 use Rattle.model.specs.Item.{items_of}
 use Rattle.model.specs.Play.{Section, tune_of, retold}
 use Rattle.model.specs.Word.{is_message}
@@ -22,8 +21,8 @@ sections_plain body items sections =
 
 -- 17 where there is no order, then 18, at the track's header
 unfoldable pub flattened : ℕ → ℕ → List ℕ → Items → Option (List Section) → Checked (List ℕ)
-flattened header room body items none = refused 17 header
-flattened header room body items (some sections) = fitted header room (sections_plain body items sections)
+flattened header room body items None = refused 17 header
+flattened header room body items (Some sections) = fitted header room (sections_plain body items sections)
 
 -- the plain form of a track, from its bodies
 unfoldable pub bodies_flattened : Voice → Bool → ℕ → ℕ → List ℕ → List ℕ → Checked (List ℕ)
@@ -35,4 +34,4 @@ unfoldable pub row_flattened : ℕ → Checked File → ℕ → Checked (List �
 row_flattened room outcome row = do
   performance ← row_performed outcome row
   when (65536 <? length (plain_of performance)) or (room <? length (plain_of performance)) then refused 18 performance.track.header else passed
-  fine (plain_of performance)
+  Ok (plain_of performance)

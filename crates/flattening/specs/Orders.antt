@@ -1,6 +1,6 @@
 -- The plain form of an order: the spans of its letters one after the other, the rest before the end, and the end mark.
-use Rattle.std.specs.Prelude.{ℕ, ◌+◌, ◌<◌, ◌≤◌, ◌≡◌, false, List, length, get_or}
-use Rattle.model.specs.Words.{when◌then◌else◌, ◌or◌, ◌<?◌, Checked, Checked.fine, Checked.refused}
+use Rattle.std.specs.Prelude.{ℕ, ◌+◌, ◌<◌, ◌≤◌, ◌≡◌, false, List, length, get_or, Ok}
+use Rattle.model.specs.Words.{when◌then◌else◌, ◌or◌, ◌<?◌, Checked, refused}
 use Rattle.model.specs.Bytes.{◌!◌}
 use Rattle.model.specs.Plain.{bytes_of, rest, plain_after}
 use Rattle.model.specs.Content.{handy_phone}
@@ -55,4 +55,4 @@ pub record Measured (body : List ℕ) (items : Items) (spans : List Span) (lette
 
 -- 18, at the track's header, where a plain form is over 65,536 bytes or over the room
 unfoldable pub fitted : ℕ → ℕ → List ℕ → Checked (List ℕ)
-fitted header room bytes = when (65536 <? length bytes) or (room <? length bytes) then refused 18 header else fine bytes
+fitted header room bytes = when (65536 <? length bytes) or (room <? length bytes) then refused 18 header else Ok bytes

@@ -1,5 +1,5 @@
 -- A plain form in parts, one for each section: its messages after those before, and what is known of a part before it is written.
-use Rattle.std.specs.Prelude.{ℕ, ◌+◌, ◌-◌, ◌≤◌, true, false, List, [], ◌∷◌, ◌++◌, map, ◌≡◌, length}
+use Rattle.std.specs.Prelude.{ℕ, ◌+◌, ◌-◌, ◌≤◌, true, false, List, [], ◌∷◌, ◌++◌, map, ◌≡◌, length, Option, Some}
 use Rattle.model.specs.Words.{when◌then◌else◌}
 use Rattle.model.specs.Bytes.{part}
 use Rattle.model.specs.Duration.{longest_duration, duration_bytes}
@@ -72,9 +72,8 @@ pub record Written (bytes : List ℕ) (place : ℕ) (out : List ℕ) (at : ℕ) 
   pub inside : place + length bytes ≤ at
   pub stand : part out place (length bytes) ≡ bytes
 
--- place 0 says that it is not known where they stand
-abbrev pub WrittenWhereKnown : List ℕ → ℕ → List ℕ → ℕ → Type 0
-WrittenWhereKnown bytes place out at = (place ≡ 0 → ⊥) → Written bytes place out at
+abbrev pub WrittenWhereKnown : List ℕ → Option ℕ → List ℕ → ℕ → Type 0
+WrittenWhereKnown bytes known out at = (place : ℕ) → known ≡ Some place → Written bytes place out at
 
 -- nothing is counted yet
 abbrev pub silence : Outline

@@ -11,22 +11,6 @@ use super::gaps::write_gap;
 use super::section::write_messages;
 use model::{Shape, Span, Told, Voice};
 
-// So many bytes from a place on, to another place behind them. Returns the place after them.
-fn copy_bytes(out: &mut [u8], from: usize, count: usize, at: usize) -> usize
-    requires count_bound { from + count ≤ at }
-    requires count_in_bounds { at + count ≤ length out.old }
-    ensures value { result ≡ at + count }
-    ensures out_after { out.new ≡ sets out.old at (part out.old from count) }
-{
-    let mut i: usize = 0;
-    while i < count {
-        let byte = out[from + i];
-        out[at + i] = byte;
-        i += 1;
-    }
-    at + count
-}
-
 // The gap to the first message of a span that is heard, and the bytes after it, which stand from a place on.
 fn write_again(
     span: Span,
@@ -47,23 +31,21 @@ fn write_again(
     ensures past_value { result.past ≡ before + span.lasts - shape.tail }
     ensures out_after { out.new ≡ sets out.old at (gap_bytes (before - past + shape.lead) ++ part out.old place shape.bytes) }
 {
-    let last = before + span.lasts - shape.tail;
     let middle = write_gap(out, at, before - past + shape.lead);
-    let end = copy_bytes(out, place, shape.bytes, middle);
+    out.copy_within(place..place + shape.bytes, middle);
     Told {
-        at: end,
-        past: last,
+        at: middle + shape.bytes,
+        past: before + span.lasts - shape.tail,
     }
 }
 
-// The messages of a span, as `write_messages` writes them: copied where it is known where they stand. No message stands at place 0, which
-// says that it is not known.
+// The messages of a span, as `write_messages` writes them: copied where it is known where they stand.
 pub fn write_section(
     voice: Voice,
     body: &[u8],
     span: Span,
     shape: Shape,
-    place: usize,
+    known: Option<usize>,
     before: u64,
     past: u64,
     out: &mut [u8],
@@ -77,14 +59,14 @@ pub fn write_section(
     requires lasts_bound { before + span.lasts ≤ 4611686018427387904 }
     requires past_le_before { past ≤ before }
     requires before_in_bounds { at + length (part_bytes body.now past (span_rows (items_of voice body.now) span before)) ≤ length out.old }
-    requires written_where_known { WrittenWhereKnown (span_bytes body.now (items_of voice body.now) span) place out.old at }
+    requires written_where_known { WrittenWhereKnown (span_bytes body.now (items_of voice body.now) span) known out.old at }
     ensures at_value { result.at ≡ at + length (part_bytes body.now past (span_rows (items_of voice body.now) span before)) }
     ensures past_value { result.past ≡ part_last body.now past (span_rows (items_of voice body.now) span before) }
     ensures out_after { out.new ≡ sets out.old at (part_bytes body.now past (span_rows (items_of voice body.now) span before)) }
 {
-    if place == 0 {
+    let Some(place) = known else {
         return write_messages(voice, body, span, before, past, out, at);
-    }
+    };
     if shape.heard {
         return write_again(span, shape, place, before, past, out, at);
     }

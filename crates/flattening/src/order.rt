@@ -9,7 +9,7 @@ ghost use Rattle.flattening.specs.Orders.{order_bytes, AllShaped, fitted};
 use super::again::write_section;
 use super::gaps::write_rest;
 use super::sizes::measure_order;
-use model::{FlattenAnswer, Shape, Span, Voice};
+use model::{Refusal, Shape, Span, Voice, refused};
 use writing::write_end_mark;
 
 // The spans of letters one after the other, each message after the gap to the one before; then the rest and the end mark. A span that comes
@@ -33,22 +33,29 @@ pub fn write_order(
     ensures value { result ≡ length (order_bytes body.now (items_of voice body.now) spans 0 0 letters.now) }
     ensures out_after { out.new ≡ sets out.old 0 (order_bytes body.now (items_of voice body.now) spans 0 0 letters.now) }
 {
-    let mut places = [0usize; 256];
+    let mut places = [None; 256];
     let mut at: usize = 0;
     let mut before: u64 = 0;
     let mut past: u64 = 0;
-    let mut i: usize = 0;
-    while i < letters.len() {
-        let slot = letters[i] as usize;
+    for letter in letters {
+        let slot = *letter as usize;
         let span = spans[slot];
         let shape = shapes[slot];
-        let place = places[slot];
-        let told = write_section(voice, body, span, shape, place, before, past, out, at);
-        places[slot] = told.at - shape.bytes;
+        let told = write_section(
+            voice,
+            body,
+            span,
+            shape,
+            places[slot],
+            before,
+            past,
+            out,
+            at,
+        );
+        places[slot] = Some(told.at - shape.bytes);
         at = told.at;
         past = told.past;
         before += span.lasts;
-        i += 1;
     }
     let end = write_rest(out, at, before - past);
     write_end_mark(out, end)
@@ -62,7 +69,7 @@ pub fn flatten_order(
     spans: [Span; 256],
     letters: &[u8],
     out: &mut [u8],
-) -> FlattenAnswer
+) -> Result<usize, Refusal>
     requires body_len_bound { length body.now ≤ 65536 }
     requires body_value { is_fine (body_of voice body.now) ≡ true }
     requires letters_len_bound { length letters.now ≤ 65536 }
@@ -74,19 +81,11 @@ pub fn flatten_order(
 {
     let measure = measure_order(voice, body, spans, letters);
     if 65536 < measure.bytes {
-        return FlattenAnswer::Refused {
-            number: 18,
-            place: header,
-        };
+        return refused(18, header);
     }
     if out.len() < measure.bytes {
-        return FlattenAnswer::Refused {
-            number: 18,
-            place: header,
-        };
+        return refused(18, header);
     }
     let shapes = measure.shapes;
-    FlattenAnswer::Bytes {
-        length: write_order(voice, body, spans, shapes, letters, out),
-    }
+    Ok(write_order(voice, body, spans, shapes, letters, out))
 }

@@ -64,7 +64,13 @@ pub fn write_messages(
                 past: last,
             };
         }
-        match read_item(voice, body, place) {
+        let Ok(item) = read_item(voice, body, place) else {
+            return Told {
+                at: here,
+                past: last,
+            };
+        };
+        match item {
             ReadItem::Timed {
                 duration,
                 event,
@@ -81,15 +87,6 @@ pub fn write_messages(
             }
             ReadItem::EndMark { next } => {
                 place = next;
-            }
-            ReadItem::Refused {
-                number: _,
-                place: _,
-            } => {
-                return Told {
-                    at: here,
-                    past: last,
-                };
             }
         }
     }
@@ -136,15 +133,6 @@ fn join(outline: Outline, step: u64, event: Event) -> Outline
     }
 }
 
-fn time_after(lasts: u64, step: u64) -> u64
-    ensures { result ≡ lasts - step }
-{
-    if lasts < step {
-        return 0;
-    }
-    lasts - step
-}
-
 fn shape_in(outline: Outline, lasts: u64) -> Shape
     ensures { result ≡ shaped lasts outline }
 {
@@ -152,7 +140,7 @@ fn shape_in(outline: Outline, lasts: u64) -> Shape
         heard: outline.heard,
         lead: outline.lead,
         bytes: outline.bytes,
-        tail: time_after(lasts, outline.last),
+        tail: lasts.saturating_sub(outline.last),
     }
 }
 
@@ -172,7 +160,10 @@ pub fn shape_of(voice: Voice, body: &[u8], span: Span) -> Shape
         if count == 0 {
             return shape_in(outline, span.lasts);
         }
-        match read_item(voice, body, place) {
+        let Ok(item) = read_item(voice, body, place) else {
+            return shape_in(outline, span.lasts);
+        };
+        match item {
             ReadItem::Timed {
                 duration,
                 event,
@@ -187,12 +178,6 @@ pub fn shape_of(voice: Voice, body: &[u8], span: Span) -> Shape
             }
             ReadItem::EndMark { next } => {
                 place = next;
-            }
-            ReadItem::Refused {
-                number: _,
-                place: _,
-            } => {
-                return shape_in(outline, span.lasts);
             }
         }
     }

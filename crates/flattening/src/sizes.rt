@@ -62,23 +62,20 @@ pub fn measure_order(voice: Voice, body: &[u8], spans: [Span; 256], letters: &[u
     let mut shapes = [no_shape(); 256];
     let mut known = [false; 256];
     let mut size = Size { bytes: 0, gap: 0 };
-    let mut i: usize = 0;
-    while i < letters.len() {
+    for letter in letters {
         if 65536 < size.bytes {
             return Measure {
                 shapes,
                 bytes: size.bytes,
             };
         }
-        let slot = letters[i] as usize;
+        let slot = *letter as usize;
         if !known[slot] {
-            let span = spans[slot];
-            shapes[slot] = shape_of(voice, body, span);
+            shapes[slot] = shape_of(voice, body, spans[slot]);
             known[slot] = true;
         }
         let shape = shapes[slot];
         size = add_shape(size, shape);
-        i += 1;
     }
     Measure {
         shapes,

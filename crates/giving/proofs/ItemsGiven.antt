@@ -5,11 +5,12 @@ use mathlib.Core.Path.{◌≡◌, refl, sym, ◌∙◌, ap, ap₂, subst}
 use mathlib.Core.Bool.{true, false, false≢true}
 use mathlib.Core.List.{List, [], ◌∷◌}
 use lib.ListN.{length, take}
-use lib.Seq.{sets}
+use lib.Seq.{sets, length-sets}
 use native.Mathlib.Omega.{arith}
 use borrow.Author.Tests.{lt-ltb, le-ltb, ne_eqb}
-use Rattle.model.specs.Words.{when◌then◌else◌, ◌<?◌, Placed, Checked, Checked.fine, Checked.refused, passed, ◌>>=◌, ◌>>◌, Step.met}
-use Rattle.model.specs.Item.{Item, Item.timed, Item.end_mark, duration_of, item_at, item_step, body_of, is_fine, items_of, found, body_answer}
+use Rattle.model.specs.Words.{when◌then◌else◌, ◌<?◌, Placed, Checked, passed, ◌>>=◌, ◌>>◌, Step.met, refused}
+use Rattle.std.specs.Prelude.{Ok, Err}
+use Rattle.model.specs.Item.{Item, Item.timed, Item.end_mark, duration_of, lasting, item_at, item_step, body_of, is_fine, items_of, found, body_answer}
 use Rattle.model.specs.Word.{word_of, InWord}
 use Rattle.model.specs.Writing.{event_word, mark_word, item_word, items_numbers}
 use Rattle.model.specs.Answer.{memory_after, track_named, items_of_track, items_answer, items_table}
@@ -18,12 +19,10 @@ use Rattle.model.specs.declared.Voice.{Voice}
 use Rattle.model.specs.declared.Event.{Event}
 use Rattle.model.specs.declared.Event.TheVariants.{Nop, Note, Wave, Control, Exclusive}
 use Rattle.model.specs.declared.ReadItem.{ReadItem}
-use Rattle.model.specs.declared.ReadItem.TheVariants.{Timed, EndMark, Refused}
-use Rattle.model.specs.declared.ReadBody.{ReadBody}
-use Rattle.model.specs.declared.ReadBody.TheVariants as body
+use Rattle.model.specs.declared.ReadItem.TheVariants.{Timed, EndMark}
+use Rattle.model.specs.declared.WalkedBody.{WalkedBody}
 use Rattle.model.specs.declared.Bodies.{Bodies}
-use Rattle.model.specs.declared.Counted.{Counted}
-use Rattle.model.specs.declared.Counted.TheVariants as counted
+use Rattle.model.specs.declared.Refusal.{Refusal}
 use Rattle.model.proofs.Tests.{by_test}
 use Rattle.model.proofs.Walks.{Stand, stand_first, stand_never_stuck, stand_over}
 use Rattle.model.proofs.Stores.{sets_append}
@@ -36,8 +35,6 @@ use Rattle.sections.proofs.InWords.{ItemInWord, item_in_word}
 use Rattle.playing.specs.Performing.{bytes_in, Inside}
 use Rattle.playing.proofs.Played.{written_front}
 use Rattle.giving.specs.Giving.{Names, word_given, items_fitted}
-use Rattle.giving.specs.declared.NamedTrack.{NamedTrack}
-use Rattle.giving.specs.declared.NamedTrack.TheVariants as names
 use Rattle.giving.proofs.TrackNamed.{the_track, named_inside, named_small, not_named}
 
 abbrev Items : Type 0
@@ -69,14 +66,14 @@ item_first : (out : List ℕ) (next : ℕ) (item : Placed (Item Event)) (rest : 
 unfolding items_numbers
 item_first out next item rest = sets_append out next (duration_of item.what ∷ item_word item.what ∷ []) (items_numbers rest)
 
-pub record Giving (voice : Voice) (s : List ℕ) (l out : List ℕ) (at next : ℕ) : Type 0 where
+pub record Giving (voice : Voice) (s : List ℕ) (l out : List ℕ) (at place : ℕ) : Type 0 where
   pub bytes : AllBytes s
   pub small : length s ≤ 65536
   pub rest : List (Placed (Item Event))
   pub stands : Stand (length s) (item_step voice s) at rest
   pub same : length out ≡ length l
-  pub room : next + 2 * length rest ≤ length out
-  pub whole : sets out next (items_numbers rest) ≡ sets l 0 (items_numbers (items_of voice s))
+  pub room : place + 2 * length rest ≤ length out
+  pub whole : sets out place (items_numbers rest) ≡ sets l 0 (items_numbers (items_of voice s))
 
 pub give_starts : (voice : Voice) (s l : List ℕ) → AllBytes s → length s ≤ 65536 → is_fine (body_of voice s) ≡ true → 2 * length (items_of voice s) ≤ length l
     → Giving voice s l l 0 0
@@ -91,7 +88,7 @@ give_starts voice s l bytes small ok room =
       whole = refl;
     }
 
-module _ (voice : Voice) (s l out : List ℕ) (at next : ℕ) (g : Giving voice s l out at next) where
+module _ (voice : Voice) (s l out : List ℕ) (at place : ℕ) (g : Giving voice s l out at place) where
   pub give_bytes : AllBytes s
   give_bytes = g.bytes
 
@@ -102,7 +99,7 @@ module _ (voice : Voice) (s l out : List ℕ) (at next : ℕ) (g : Giving voice 
   unfolding items_numbers
   give_ends past =
       let none_left = stand_over (length s) (item_step voice s) at g.rest g.stands (item_goes voice s at) past in
-      ap (λ (items : Items). sets out next (items_numbers items)) (sym none_left) ∙ g.whole
+      ap (λ (items : Items). sets out place (items_numbers items)) (sym none_left) ∙ g.whole
 
   -- one item further
   record Further (what : Item Event) (after : ℕ) : Type 0 where
@@ -127,18 +124,18 @@ module _ (voice : Voice) (s l out : List ℕ) (at next : ℕ) (g : Giving voice 
   unfolding ItemAgrees duration_of item_word
   took taken here agrees = go (item_at voice s at) refl agrees
     where
-      go : (j : ReadItem) → item_at voice s at ≡ j → ItemAgrees taken j → Took taken
-      go (Timed duration event after) e a =
+      go : (j : Checked ReadItem) → item_at voice s at ≡ j → ItemAgrees taken j → Took taken
+      go (Ok (Timed duration event after)) e a =
           let there : InWord event = (subst ItemInWord e (item_in_word s g.bytes g.small voice at)).1 in
           let on = further (timed duration event) after here (timed_met voice s at (item_at voice s at) refl duration after event e) in
           subst Took (sym a) (record { what = timed duration event; on = on; lasts = refl; word = event_given_lem event there })
-      go (EndMark after) e a =
+      go (Ok (EndMark after)) e a =
           let on = further end_mark after here (mark_met voice s at (item_at voice s at) refl after e) in
           subst Took (sym a) (record { what = end_mark; on = on; lasts = refl; word = mark_given })
-      go (Refused number place) e a =
+      go (Err why) e a =
           absurd
-          (stand_never_stuck (length s) (item_step voice s) at g.rest g.stands here number place
-          (refused_stuck voice s at (item_at voice s at) refl number place e))
+          (stand_never_stuck (length s) (item_step voice s) at g.rest g.stands here why.number why.place
+          (refused_stuck voice s at (item_at voice s at) refl why.number why.place e))
 
   module _ (taken : Taken) (here : at < length s) (agrees : ItemAgrees taken (item_at voice s at)) where
     one : Took taken
@@ -150,25 +147,26 @@ module _ (voice : Voice) (s l out : List ℕ) (at next : ℕ) (g : Giving voice 
     pub give_nears : length s - taken.next < length s - at
     give_nears = one.on.nears
 
-    pub give_room : next + 2 ≤ length out
+    pub give_room : place + 2 ≤ length out
     give_room = omega (arith, many, g.room)
 
-    pub give_turns : (word : ℕ) (m : List ℕ) → word ≡ word_given taken.word taken.mark → m ≡ sets out next (taken.duration ∷ word ∷ []) → length m ≡ length out
-        → Giving voice s l m taken.next (next + 2)
-    give_turns word m w e kept =
+    pub give_turns : (word : ℕ) (m : List ℕ) → word ≡ word_given taken.word taken.mark → m ≡ sets out place (taken.duration ∷ word ∷ [])
+        → Giving voice s l m taken.next (place + 2)
+    give_turns word m w e =
         let item : Placed (Item Event) = record { place = at; what = one.what } in
+        let kept : length m ≡ length out = ap length e ∙ length-sets out place (taken.duration ∷ word ∷ []) in
         record {
           bytes = g.bytes;
           small = g.small;
           rest = one.on.more;
           stands = one.on.stand;
           same = kept ∙ g.same;
-          room = omega (arith, many, g.room);
+          room = omega (arith, many, g.room, kept);
           whole =
-              ap (λ (x : List ℕ). sets x (next + 2) (items_numbers one.on.more))
-              (e ∙ ap₂ (λ (d x : ℕ). sets out next (d ∷ x ∷ [])) one.lasts (w ∙ one.word))
-              ∙ item_first out next item one.on.more
-              ∙ ap (λ (items : Items). sets out next (items_numbers items)) (sym one.on.splits)
+              ap (λ (x : List ℕ). sets x (place + 2) (items_numbers one.on.more))
+              (e ∙ ap₂ (λ (d x : ℕ). sets out place (d ∷ x ∷ [])) one.lasts (w ∙ one.word))
+              ∙ item_first out place item one.on.more
+              ∙ ap (λ (items : Items). sets out place (items_numbers items)) (sym one.on.splits)
               ∙ g.whole;
         }
 
@@ -176,37 +174,37 @@ pub ruleset gives = (give_starts, give_bytes, give_kept, give_ends, give_nears, 
 
 -- HOW MANY
 
-count_whole : (c : Checked Items) (count lasts : ℕ) → body_answer c ≡ body.Whole count lasts → count ≡ length (found c)
+count_whole : (c : Checked Items) (walked : WalkedBody) → body_answer c ≡ Ok walked → walked.count ≡ length (found c)
 unfolding body_answer found
-count_whole (fine items) count lasts e = let same : length items ≡ count = cc in sym same
-count_whole (refused n p) count lasts e = let z : ◌≡◌ {A = ℕ} 0 1 = cc in absurd (omega arith)
+count_whole (Ok items) walked e = let same : ◌≡◌ {A = WalkedBody} (record { count = length items; duration = lasting items }) walked = cc in sym (ap (λ (w : WalkedBody). w.count) same)
+count_whole (Err why) walked e = let z : ◌≡◌ {A = ℕ} 0 1 = cc in absurd (omega arith)
 
-count_refused : (c : Checked Items) (n p : ℕ) → is_fine c ≡ true → body_answer c ≡ body.Refused n p → ⊥
+count_refused : (c : Checked Items) (why : Refusal) → is_fine c ≡ true → body_answer c ≡ Err why → ⊥
 unfolding body_answer is_fine
-count_refused (fine items) n p ok e = let z : ◌≡◌ {A = ℕ} 0 1 = cc in omega arith
-count_refused (refused m q) n p ok e = false≢true ok
+count_refused (Ok items) why ok e = let z : ◌≡◌ {A = ℕ} 0 1 = cc in omega arith
+count_refused (Err told) why ok e = false≢true ok
 
-module _ (voice : Voice) (s : List ℕ) (r : ReadBody) (is : r ≡ body_answer (body_of voice s)) where
-  pub counts : (count lasts : ℕ) → r ≡ body.Whole count lasts → count ≡ length (items_of voice s)
+module _ (voice : Voice) (s : List ℕ) (r : Checked WalkedBody) (is : r ≡ body_answer (body_of voice s)) where
+  pub counts : (walked : WalkedBody) → r ≡ Ok walked → walked.count ≡ length (items_of voice s)
   unfolding items_of
-  counts count lasts e = count_whole (body_of voice s) count lasts (sym is ∙ e)
+  counts walked e = count_whole (body_of voice s) walked (sym is ∙ e)
 
-  pub never_counts : (n p : ℕ) → is_fine (body_of voice s) ≡ true → r ≡ body.Refused n p → 0 ≡ length (items_of voice s)
-  never_counts n p ok e = absurd (count_refused (body_of voice s) n p ok (sym is ∙ e))
+  pub never_counts : (why : Refusal) → is_fine (body_of voice s) ≡ true → r ≡ Err why → 0 ≡ length (items_of voice s)
+  never_counts why ok e = absurd (count_refused (body_of voice s) why ok (sym is ∙ e))
 
 pub ruleset counting = (counts, never_counts)
 
 -- WHAT IS ANSWERED, from the items of a body
 
-refused_answer : (o : Checked Items) (number place : ℕ) → o ≡ refused number place → counted.Refused number place ≡ items_answer o
+refused_answer : (o : Checked Items) (why : Refusal) → o ≡ Err why → Err why ≡ items_answer o
 unfolding items_answer
-refused_answer o number place is = ap items_answer (sym is)
+refused_answer o why is = ap items_answer (sym is)
 
-refused_table : (o : Checked Items) (number place : ℕ) (l : List ℕ) → o ≡ refused number place → l ≡ items_table l o
+refused_table : (o : Checked Items) (why : Refusal) (l : List ℕ) → o ≡ Err why → l ≡ items_table l o
 unfolding items_table memory_after
-refused_table o number place l is = ap (items_table l) (sym is)
+refused_table o why l is = ap (items_table l) (sym is)
 
-same_answer : (one other : Checked Items) (r : Counted) → one ≡ other → r ≡ items_answer one → r ≡ items_answer other
+same_answer : (one other : Checked Items) (r : Checked ℕ) → one ≡ other → r ≡ items_answer one → r ≡ items_answer other
 same_answer one other r same e = e ∙ ap items_answer same
 
 same_table : (one other : Checked Items) (l m : List ℕ) → one ≡ other → m ≡ items_table l one → m ≡ items_table l other
@@ -216,7 +214,7 @@ fitted_not : (room : ℕ) (items : Items) → room / 2 < length items → items_
 unfolding items_fitted when◌then◌else◌
 fitted_not room items h = simp lt-ltb
 
-fitted_all : (room : ℕ) (items : Items) → length items ≤ room / 2 → items_fitted room items ≡ fine items
+fitted_all : (room : ℕ) (items : Items) → length items ≤ room / 2 → items_fitted room items ≡ Ok items
 unfolding items_fitted when◌then◌else◌
 fitted_all room items h = simp le-ltb
 
@@ -231,15 +229,15 @@ module _ (voice : Voice) (sequence other : List ℕ) (cut : sequence ≡ other) 
   total : count ≡ length (items_of voice other)
   total = many ∙ ap (λ (x : List ℕ). length (items_of voice x)) cut
 
-  pub items_short : (room : ℕ) → room / 2 < count → counted.Refused 15 0 ≡ items_answer (items_fitted room (items_of voice other))
-  items_short room h = refused_answer _ 15 0 (fitted_not room (items_of voice other) (omega (arith, total)))
+  pub items_short : (room : ℕ) → room / 2 < count → refused 15 0 ≡ items_answer (items_fitted room (items_of voice other))
+  items_short room h = refused_answer _ _ (fitted_not room (items_of voice other) (omega (arith, total)))
 
   pub items_kept : (l : List ℕ) → length l / 2 < count → l ≡ items_table l (items_fitted (length l) (items_of voice other))
-  items_kept l h = refused_table _ 15 0 l (fitted_not (length l) (items_of voice other) (omega (arith, total)))
+  items_kept l h = refused_table _ _ l (fitted_not (length l) (items_of voice other) (omega (arith, total)))
 
-  pub items_rows : (room : ℕ) → count ≤ room / 2 → counted.Rows count ≡ items_answer (items_fitted room (items_of voice other))
+  pub items_rows : (room : ℕ) → count ≤ room / 2 → Ok count ≡ items_answer (items_fitted room (items_of voice other))
   unfolding items_answer
-  items_rows room h = ap counted.Rows total ∙ ap items_answer (sym (fitted_all room (items_of voice other) (omega (arith, total))))
+  items_rows room h = ap (λ (n : ℕ). Ok n) total ∙ ap items_answer (sym (fitted_all room (items_of voice other) (omega (arith, total))))
 
   pub items_written : (l m : List ℕ) → count ≤ length l / 2 → m ≡ sets l 0 (items_numbers (items_of voice sequence))
       → m ≡ items_table l (items_fitted (length l) (items_of voice other))
@@ -253,20 +251,20 @@ pub ruleset items_given_lem = (sequence_small, sequence_reads, items_short, item
 
 -- WHAT IS ANSWERED, from the track that a row names
 
-fitted_track : (room : ℕ) (c : Checked Track) (track : Track) → c ≡ fine track
-    → (c >>= λ given. ((when room / 2 <? length given.items then refused 15 0 else passed) >> fine given.items)) ≡ items_fitted room track.items
+fitted_track : (room : ℕ) (c : Checked Track) (track : Track) → c ≡ Ok track
+    → (c >>= λ given. ((when room / 2 <? length given.items then refused 15 0 else passed) >> Ok given.items)) ≡ items_fitted room track.items
 unfolding items_fitted ◌>>=◌ ◌>>◌ when◌then◌else◌
 fitted_track room c track e = rw e (by_test (room / 2 <? length track.items) (λ h. simp h) (λ h. simp h))
 
-module _ (buffer : List ℕ) (n row : ℕ) (r : NamedTrack) (told : Names (take n buffer) (track_named buffer n row) r) (room : ℕ) where
-  module _ (bodies : Bodies) (e : r ≡ names.At bodies) where
+module _ (buffer : List ℕ) (n row : ℕ) (r : Checked Bodies) (told : Names (take n buffer) (track_named buffer n row) r) (room : ℕ) where
+  module _ (bodies : Bodies) (e : r ≡ Ok bodies) where
     items_are : items_fitted room (items_of bodies.voice (bytes_in (take n buffer) bodies.sequence)) ≡ items_of_track buffer n row room
     unfolding items_of_track
     items_are =
         let track = the_track buffer n row r told bodies e in
         ap (items_fitted room) (sym track.2.items) ∙ sym (fitted_track room (track_named buffer n row) track.0 track.1)
 
-    pub track_answer : (x : Counted) → x ≡ items_answer (items_fitted room (items_of bodies.voice (bytes_in (take n buffer) bodies.sequence)))
+    pub track_answer : (x : Checked ℕ) → x ≡ items_answer (items_fitted room (items_of bodies.voice (bytes_in (take n buffer) bodies.sequence)))
         → x ≡ items_answer (items_of_track buffer n row room)
     track_answer x = same_answer _ _ x items_are
 
@@ -274,15 +272,15 @@ module _ (buffer : List ℕ) (n row : ℕ) (r : NamedTrack) (told : Names (take 
         → m ≡ items_table l (items_of_track buffer n row room)
     track_table l m = same_table _ _ l m items_are
 
-  module _ (number place : ℕ) (e : r ≡ names.Refused number place) where
-    no_items : items_of_track buffer n row room ≡ refused number place
+  module _ (why : Refusal) (e : r ≡ Err why) where
+    no_items : items_of_track buffer n row room ≡ Err why
     unfolding items_of_track ◌>>=◌
-    no_items = rw (not_named buffer n row r told number place e)
+    no_items = rw (not_named buffer n row r told why e)
 
-    pub no_answer : counted.Refused number place ≡ items_answer (items_of_track buffer n row room)
-    no_answer = refused_answer _ number place no_items
+    pub no_answer : Err why ≡ items_answer (items_of_track buffer n row room)
+    no_answer = refused_answer _ why no_items
 
     pub no_table : (l : List ℕ) → l ≡ items_table l (items_of_track buffer n row room)
-    no_table l = refused_table _ number place l no_items
+    no_table l = refused_table _ why l no_items
 
 pub ruleset tracks_given = (named_inside, named_small, track_answer, track_table, no_answer, no_table)

@@ -2,27 +2,30 @@
 -- `count_entries`'s and `fill_entries`'s loops, and what each turn and the end make of them.
 use Prim.Native.Nat.{ℕ, ◌+◌, ◌-◌, ◌*◌, ◌<◌, ◌≤◌}
 use mathlib.Core.Path.{◌≡◌, refl, sym, ◌∙◌, ap, subst}
-use mathlib.Core.Bool.{Bool, false≢true}
+use mathlib.Core.Bool.{Bool}
 use mathlib.Core.List.{List, [], ◌∷◌}
 use lib.ListN.{length, length-append}
-use lib.Seq.{sets}
+use lib.Seq.{sets, length-sets}
 use native.Mathlib.Nat.{zero-add}
 use native.Mathlib.Omega.{arith}
 use mir.Val.{Fits}
 use mir.Syntax.{w32, w64}
+use borrow.Rule.Slice.PartMut.{put_mid}
 use borrow.Author.Tests.{eqb-true, eqb-false}
 use Rattle.model.specs.Words.{◌≡?◌, Placed}
-use Rattle.model.specs.Seek.{Entry, Entry.start, Entry.stop, Entry.phrase, Entry.order}
+use Rattle.model.specs.Seek.{Entry, Entry.start, Entry.stop, Entry.phrase, Entry.order, entry_of}
 use Rattle.model.specs.SeekBytes.{entry_numbers, entries_numbers}
 use Rattle.model.specs.Track.{point_width}
-use Rattle.model.specs.declared.ReadEntry.{ReadEntry}
-use Rattle.model.specs.declared.ReadEntry.TheVariants.{Start, Stop, Phrase, Order, Refused}
+use Rattle.std.specs.Prelude.{Some}
+use Rattle.model.specs.declared.Read.{Read}
+use Rattle.model.specs.declared.SeekEntry.{SeekEntry}
+use Rattle.model.specs.declared.SeekEntry.TheVariants.{Start, Stop, Phrase, Order}
 use Rattle.model.proofs.Parts.{part_length}
-use Rattle.model.proofs.Stores.{sets_append}
+use Rattle.model.proofs.Stores.{sets_append, part_stored}
 use Rattle.model.proofs.Tests.{by_test, if_true, if_false}
-use Rattle.seek.specs.Next.{is_refused, end_of, next_at, KnownAt}
-use Rattle.seek.proofs.Ahead.{entry_of, placed}
-use Rattle.seek.proofs.Standing.{Entries, Standing, standing_starts, Walking, Met, walk_ends, walk_meets, walk_known, walk_nears, walk_turns}
+use Rattle.seek.specs.Next.{next_at, KnownAt}
+use Rattle.seek.proofs.Ahead.{Sound, placed}
+use Rattle.seek.proofs.Standing.{Entries, Standing, standing_starts, Walking, walk_ends, walk_meets, walk_known, walk_nears, walk_turns}
 use Rattle.playing.specs.Performing.{entries_said, Formed}
 use Rattle.giving.specs.Giving.{entry_read, letters_read}
 
@@ -62,14 +65,14 @@ module _ (phrases : Bool) (s : List ℕ) (count at : ℕ) (c : Counting phrases 
     pub count_fits : length s ≤ 65536 → Fits w64 (count + 1)
     count_fits small = record { fits = omega (arith, c.few) }
 
-    module _ (entry : ReadEntry) (next : ℕ) (is : entry ≡ next_at (point_width phrases) s at) (ends : next ≡ end_of entry) where
-      pub count_nears : length s - next < length s - at
-      count_nears = walk_nears _ phrases s at c.walk entry here is next ends
+    module _ (read : Read SeekEntry) (is : Some read ≡ next_at (point_width phrases) s at) where
+      pub count_nears : length s - read.next < length s - at
+      count_nears = walk_nears _ phrases s at c.walk read here is
 
-      pub count_turns : Counting phrases s (count + 1) next
+      pub count_turns : Counting phrases s (count + 1) read.next
       count_turns =
           record {
-            walk = walk_turns _ phrases s at c.walk entry here is next ends _ (λ more m same. omega arith);
+            walk = walk_turns _ phrases s at c.walk read here is _ (λ more m same. omega arith);
             few = omega (arith, c.few, count_nears);
           }
 
@@ -77,13 +80,9 @@ pub ruleset entries_counted = (count_starts, count_ends, count_known, count_fits
 
 -- ONE ENTRY
 
-pub numbers_told : (table : List ℕ) (at : ℕ) (entry told : ReadEntry) (z : List ℕ) → entry ≡ told → z ≡ sets table at (entry_read told)
-    → z ≡ sets table at (entry_read entry)
-numbers_told table at entry told z e h = rw e h
-
-pub letters_fit : (entry : ReadEntry) (letters next : ℕ) → entry ≡ Order letters next → letters_read entry ≤ 65536 → Fits w32 letters
+pub letters_fit : (entry : SeekEntry) (letters : ℕ) → entry ≡ Order letters → letters_read entry ≤ 65536 → Fits w32 letters
 unfolding letters_read
-letters_fit entry letters next e h = let few : letters ≤ 65536 = subst (λ (x : ReadEntry). letters_read x ≤ 65536) e h in record { fits = omega arith }
+letters_fit entry letters e h = let few : letters ≤ 65536 = subst (λ (x : SeekEntry). letters_read x ≤ 65536) e h in record { fits = omega arith }
 
 four : (entry : Entry) → length (entry_numbers entry) ≡ 4
 unfolding entry_numbers
@@ -92,21 +91,19 @@ four (stop value) = refl
 four (phrase letter from to) = refl
 four (order letters) = refl
 
-read_numbers : (s : List ℕ) (at : ℕ) (entry : ReadEntry) (more : Entries) → Met s at entry more → entry_read entry ≡ entry_numbers (entry_of s at entry)
-unfolding entry_read entry_numbers entry_of is_refused
-read_numbers s at (Start value next) more m = refl
-read_numbers s at (Stop value next) more m = refl
-read_numbers s at (Phrase letter from to next) more m = refl
-read_numbers s at (Order letters next) more m = ap (λ (n : ℕ). 3 ∷ 0 ∷ n ∷ 0 ∷ []) (sym (part_length s (at + 3) letters m.ahead.2))
-read_numbers s at Refused more m = absurd (false≢true (sym m.whole))
+numbers_read : (s : List ℕ) (at : ℕ) (entry : SeekEntry) → Sound at (length s) entry → entry_read entry ≡ entry_numbers (entry_of s at entry)
+unfolding entry_read entry_numbers entry_of
+numbers_read s at (Start value) h = refl
+numbers_read s at (Stop value) h = refl
+numbers_read s at (Phrase letter from to) h = refl
+numbers_read s at (Order letters) h = ap (λ (n : ℕ). 3 ∷ 0 ∷ n ∷ 0 ∷ []) (sym (part_length s (at + 3) letters h))
 
-few_letters : (s : List ℕ) (at : ℕ) (entry : ReadEntry) (more : Entries) → Met s at entry more → letters_read entry ≤ length s
+few_letters : (s : List ℕ) (at : ℕ) (entry : SeekEntry) → Sound at (length s) entry → letters_read entry ≤ length s
 unfolding letters_read
-few_letters s at (Start value next) more m = omega arith
-few_letters s at (Stop value next) more m = omega arith
-few_letters s at (Phrase letter from to next) more m = omega arith
-few_letters s at (Order letters next) more m = omega (arith, m.ahead.2)
-few_letters s at Refused more m = omega arith
+few_letters s at (Start value) h = omega arith
+few_letters s at (Stop value) h = omega arith
+few_letters s at (Phrase letter from to) h = omega arith
+few_letters s at (Order letters) h = omega arith
 
 pub numbers_many : (entries : Entries) → length (entries_numbers entries) ≡ 4 * length entries
 unfolding entries_numbers
@@ -121,12 +118,10 @@ entry_first out next entry rest =
     ap (λ (n : ℕ). sets (sets out next (entry_numbers entry.what)) (next + n) (entries_numbers rest)) (sym (four entry.what))
     ∙ sets_append out next (entry_numbers entry.what) (entries_numbers rest)
 
-pub ruleset entry_stored = (numbers_told, letters_fit)
-
 -- THE TABLE
 
-pub record Storing (phrases : Bool) (s l out : List ℕ) (at next : ℕ) : Type 0 where
-  pub walk : Walking (λ rest. (next + 4 * length rest ≤ length out) × (sets out next (entries_numbers rest) ≡ sets l 0 (entries_numbers (entries_said phrases s)))) phrases s at
+pub record Storing (phrases : Bool) (s l out : List ℕ) (at place : ℕ) : Type 0 where
+  pub walk : Walking (λ rest. (place + 4 * length rest ≤ length out) × (sets out place (entries_numbers rest) ≡ sets l 0 (entries_numbers (entries_said phrases s)))) phrases s at
   pub small : length s ≤ 65536
   pub same : length out ≡ length l
 
@@ -134,7 +129,7 @@ pub store_starts : (phrases : Bool) (s l : List ℕ) → Formed phrases s → le
 store_starts phrases s l formed small room =
     record { walk = said_walks _ phrases s formed (omega arith, refl); small = small; same = refl }
 
-module _ (phrases : Bool) (s l out : List ℕ) (at next : ℕ) (f : Storing phrases s l out at next) where
+module _ (phrases : Bool) (s l out : List ℕ) (at place : ℕ) (f : Storing phrases s l out at place) where
   pub store_kept : length out ≡ length l
   store_kept = f.same
 
@@ -146,30 +141,35 @@ module _ (phrases : Bool) (s l out : List ℕ) (at next : ℕ) (f : Storing phra
     pub store_known : KnownAt (point_width phrases) s at
     store_known = walk_known _ phrases s at f.walk here
 
-    module _ (entry : ReadEntry) (is : entry ≡ next_at (point_width phrases) s at) where
-      pub store_room : next + 4 ≤ length out
-      store_room = walk_meets _ phrases s at f.walk entry here is (λ more m held. omega (arith, held.0))
+    module _ (read : Read SeekEntry) (is : Some read ≡ next_at (point_width phrases) s at) where
+      pub store_room : place + 4 ≤ length out
+      store_room = walk_meets _ phrases s at f.walk read here is (λ more m held. omega (arith, held.0))
 
-      pub store_letters : letters_read entry ≤ 65536
-      store_letters = walk_meets _ phrases s at f.walk entry here is (λ more m held. omega (arith, few_letters s at entry more m, f.small))
+      pub store_letters : letters_read read.what ≤ 65536
+      store_letters = walk_meets _ phrases s at f.walk read here is (λ more m held. omega (arith, few_letters s at read.what m.ahead.2, f.small))
 
-      module _ (after : ℕ) (ends : after ≡ end_of entry) where
-        pub store_nears : length s - after < length s - at
-        store_nears = walk_nears _ phrases s at f.walk entry here is after ends
+      pub store_nears : length s - read.next < length s - at
+      store_nears = walk_nears _ phrases s at f.walk read here is
 
-        pub store_turns : (m : List ℕ) → m ≡ sets out next (entry_read entry) → length m ≡ length out → Storing phrases s l m after (next + 4)
-        store_turns m e kept =
+      module _ (numbers : List ℕ) (e : numbers ≡ entry_read read.what) where
+        stored : Sound at (length s) read.what → put_mid place 4 out numbers ≡ sets out place (entry_numbers (entry_of s at read.what))
+        stored h =
+            part_stored out numbers (entry_numbers (entry_of s at read.what)) place 4 (e ∙ numbers_read s at read.what h) (four (entry_of s at read.what)) store_room
+
+        pub store_turns : Storing phrases s l (put_mid place 4 out numbers) read.next (place + 4)
+        store_turns =
             record {
               walk =
-                  walk_turns _ phrases s at f.walk entry here is after ends _
-                  (λ more met held. (
-                    omega (arith, held.0),
-                    ap (λ (x : List ℕ). sets x (next + 4) (entries_numbers more)) (e ∙ ap (sets out next) (read_numbers s at entry more met))
-                        ∙ entry_first out next (placed s at entry) more
-                        ∙ held.1,
+                  walk_turns _ phrases s at f.walk read here is _
+                  (λ more met held.
+                  let written = stored met.ahead.2 in
+                  let kept : length (put_mid place 4 out numbers) ≡ length out = ap length written ∙ length-sets out place (entry_numbers (entry_of s at read.what)) in (
+                    omega (arith, held.0, kept),
+                    ap (λ (x : List ℕ). sets x (place + 4) (entries_numbers more)) written ∙ entry_first out place (placed s at read.what) more ∙ held.1,
                   ));
               small = f.small;
-              same = kept ∙ f.same;
+              same = walk_meets _ phrases s at f.walk read here is
+                  (λ more met held. ap length (stored met.ahead.2) ∙ length-sets out place (entry_numbers (entry_of s at read.what)) ∙ f.same);
             }
 
 pub ruleset entries_stored = (store_starts, store_kept, store_ends, store_known, store_room, store_letters, store_nears, store_turns)

@@ -7,12 +7,4 @@ mod operation;
 mod seek_entries;
 mod sequence;
 
-use model::Bodies;
 pub use operation::{entries_of, items_of};
-
-// The track that a row names, or a refusal.
-#[derive(Clone, Copy)]
-pub enum NamedTrack {
-    At(Bodies),
-    Refused { number: u32, place: usize },
-}

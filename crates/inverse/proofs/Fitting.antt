@@ -6,7 +6,7 @@ use mathlib.Core.Path.{◌≡◌, subst}
 use lib.ListN.{length}
 use native.Mathlib.Omega.{arith}
 use borrow.Author.Tests.{le-leb, leb-false, ltb-false}
-use Rattle.model.specs.Words.{◌<?◌, ◌≤?◌, ◌≡?◌}
+use Rattle.model.specs.Words.{◌<?◌, ◌≤?◌, ◌≡?◌, Checked}
 use Rattle.model.specs.Bytes.{◌!◌}
 use Rattle.model.specs.Duration.{duration_at, gate_at}
 use Rattle.model.specs.Event.{is_sound, sound, gated, sound_at, long_kind, short_kind, has_kind, is_value, long_at, short_at, formed, control_at, closed_at, exclusive_at, system_at, event_at}
@@ -17,12 +17,10 @@ use Rattle.model.specs.declared.Voice.{Voice}
 use Rattle.model.specs.declared.Voice.TheVariants.{Score, Pcm}
 use Rattle.model.specs.declared.Event.{Event}
 use Rattle.model.specs.declared.Event.TheVariants.{Nop, Note, Wave, Control, Exclusive}
-use Rattle.model.specs.declared.ReadDuration.{ReadDuration}
-use Rattle.model.specs.declared.ReadDuration.TheVariants as duration
-use Rattle.model.specs.declared.ReadEvent.{ReadEvent}
-use Rattle.model.specs.declared.ReadEvent.TheVariants as event
+use Rattle.std.specs.Prelude.{Ok, Err}
+use Rattle.model.specs.declared.Read.{Read}
 use Rattle.model.specs.declared.ReadItem.{ReadItem}
-use Rattle.model.specs.declared.ReadItem.TheVariants.{Timed, EndMark, Refused}
+use Rattle.model.specs.declared.ReadItem.TheVariants.{Timed, EndMark}
 use Rattle.model.proofs.Tests.{if_all, and_left, both_true}
 use Rattle.writing.proofs.EventStands.{EventStands, event_stands}
 
@@ -34,16 +32,16 @@ Inside s (Wave channel number gate) = Unit
 Inside s (Control kind channel value) = Unit
 Inside s (Exclusive place size) = exclusive_fits s place size ≡ true
 
-abbrev ReadInside : List ℕ → ReadEvent → Type 0
-ReadInside s (event.Is what next) = Inside s what
-ReadInside s (event.Refused number place) = Unit
+abbrev ReadInside : List ℕ → Checked (Read Event) → Type 0
+ReadInside s (Ok read) = Inside s read.what
+ReadInside s (Err why) = Unit
 
 module _ (s : List ℕ) where
-  gated_inside : (voice : Voice) (byte : ℕ) (d : ReadDuration) → ReadInside s (gated voice byte d)
+  gated_inside : (voice : Voice) (byte : ℕ) (d : Checked (Read ℕ)) → ReadInside s (gated voice byte d)
   unfolding gated sound
-  gated_inside Score byte (duration.Is value next) = tt
-  gated_inside Pcm byte (duration.Is value next) = tt
-  gated_inside voice byte (duration.Refused number place) = tt
+  gated_inside Score byte (Ok read) = tt
+  gated_inside Pcm byte (Ok read) = tt
+  gated_inside voice byte (Err why) = tt
 
   module _ (voice : Voice) (at : ℕ) where
     sound_inside : ReadInside s (sound_at voice s at)
@@ -110,25 +108,25 @@ module _ (s : List ℕ) where
   fits_inside voice (Exclusive place size) h i = i
 
   module _ (bytes : (k : ℕ) → s ! k < 256) (voice : Voice) where
-    abbrev ItemFits : ReadItem → Type 0
-    ItemFits (Timed duration what next) = event_fits voice s what ≡ true
-    ItemFits (EndMark next) = Unit
-    ItemFits (Refused number place) = Unit
+    abbrev ItemFits : Checked ReadItem → Type 0
+    ItemFits (Ok (Timed duration what next)) = event_fits voice s what ≡ true
+    ItemFits (Ok (EndMark next)) = Unit
+    ItemFits (Err why) = Unit
 
-    with_event_fits : (value next : ℕ) (e : ReadEvent) → EventStands voice s next e → ReadInside s e → ItemFits (with_event value e)
+    with_event_fits : (value next : ℕ) (e : Checked (Read Event)) → EventStands voice s next e → ReadInside s e → ItemFits (with_event value e)
     unfolding with_event
-    with_event_fits value next (event.Is what after) st i = fits_inside voice what st.0 i
-    with_event_fits value next (event.Refused number place) st i = tt
+    with_event_fits value next (Ok read) st i = fits_inside voice read.what st.0 i
+    with_event_fits value next (Err why) st i = tt
 
-    with_duration_fits : (d : ReadDuration) → ItemFits (with_duration voice s d)
+    with_duration_fits : (d : Checked (Read ℕ)) → ItemFits (with_duration voice s d)
     unfolding with_duration
-    with_duration_fits (duration.Is value next) =
-        with_event_fits value next (event_at voice s next) (event_stands s bytes voice next) (event_inside voice next)
-    with_duration_fits (duration.Refused number place) = tt
+    with_duration_fits (Ok read) =
+        with_event_fits read.what read.next (event_at voice s read.next) (event_stands s bytes voice read.next) (event_inside voice read.next)
+    with_duration_fits (Err why) = tt
 
     item_fits : (at : ℕ) → ItemFits (item_at voice s at)
     unfolding item_at
     item_fits at = if_all ItemFits (is_end_mark s at) _ _ (λ h. tt) (λ h. with_duration_fits (duration_at s at))
 
-    pub read_fits : (at value : ℕ) (what : Event) (next : ℕ) → item_at voice s at ≡ Timed value what next → event_fits voice s what ≡ true
+    pub read_fits : (at value : ℕ) (what : Event) (next : ℕ) → item_at voice s at ≡ Ok (Timed value what next) → event_fits voice s what ≡ true
     read_fits at value what next e = subst ItemFits e (item_fits at)

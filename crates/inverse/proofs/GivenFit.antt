@@ -7,7 +7,8 @@ use mathlib.Core.Path.{◌≡◌, refl, sym, ap, subst}
 use lib.ListN.{length, drop}
 use native.Mathlib.Omega.{arith}
 use borrow.Author.Tests.{le-leb, eqb-false}
-use Rattle.model.specs.Words.{◌≤?◌, ◌≡?◌, Checked.fine}
+use Rattle.model.specs.Words.{◌≤?◌, ◌≡?◌}
+use Rattle.std.specs.Prelude.{Ok}
 use Rattle.model.specs.Bytes.{◌!◌}
 use Rattle.model.specs.Item.{Item}
 use Rattle.model.specs.Content.{Content}
@@ -29,7 +30,7 @@ word_bytes word =
     (λ h. if_all HasBytes _ _ _ (λ h. omega arith) (λ h. tt))))
 
 module _ (voice : Voice) (source : List ℕ) where
-  pub item_fit : (duration word : ℕ) (item : Item Content) → item_given voice source duration word ≡ fine item → item_fits voice item ≡ true
+  pub item_fit : (duration word : ℕ) (item : Item Content) → item_given voice source duration word ≡ Ok item → item_fits voice item ≡ true
   unfolding item_fits
   item_fit duration word item e =
       elim (given_so voice source duration word item e) [
@@ -39,7 +40,7 @@ module _ (voice : Voice) (source : List ℕ) where
             (both_true (duration ≤? 16511) _ (le-leb duration 16511 event.short) (content_fits_lem voice source (event_in word) (word_bytes word) event.fits))
       ]
 
-  all_fit : (count index : ℕ) (numbers : List ℕ) (all : List (Item Content)) → items_from voice source count index numbers ≡ fine all
+  all_fit : (count index : ℕ) (numbers : List ℕ) (all : List (Item Content)) → items_from voice source count index numbers ≡ Ok all
       → (length all ≡ count) × AllFit voice all
   unfolding items_from ahead
   all_fit zero index numbers all e = let none : [] ≡ all = cc in subst (λ (l : List (Item Content)). (length l ≡ 0) × AllFit voice l) none (refl, tt)
@@ -49,7 +50,7 @@ module _ (voice : Voice) (source : List ℕ) where
       subst (λ (l : List (Item Content)). (length l ≡ suc count) × AllFit voice l) (sym first.4)
       (ap suc rest.0, (item_fit (numbers ! 0) (numbers ! 1) first.0 first.2, rest.1))
 
-  pub given_fit : (numbers : List ℕ) (all : List (Item Content)) → items_given voice source numbers ≡ fine all → (0 < length all) × AllFit voice all
+  pub given_fit : (numbers : List ℕ) (all : List (Item Content)) → items_given voice source numbers ≡ Ok all → (0 < length all) × AllFit voice all
   unfolding items_given
   given_fit numbers all e =
       let count = length numbers / 2 in

@@ -5,7 +5,8 @@ use mathlib.Core.List.{List}
 use mathlib.Core.Path.{◌≡◌, refl, sym, ◌∙◌}
 use lib.ListN.{length, take}
 use lib.Seq.{take_at}
-use Rattle.model.specs.Words.{Placed, Checked, Checked.fine}
+use Rattle.model.specs.Words.{Placed, Checked}
+use Rattle.std.specs.Prelude.{Ok}
 use Rattle.model.specs.Item.{Item, body_of}
 use Rattle.model.specs.Plain.{bytes_of}
 use Rattle.model.specs.Content.{Content, contents_in, handy_phone}
@@ -18,14 +19,14 @@ use Rattle.inverse.proofs.GivenFit.{given_fit}
 use Rattle.inverse.proofs.WrittenReads.{sequence_reads}
 
 -- the bytes that were written, at the front of the memory afterwards
-pub front : (memory : List ℕ) (outcome : Checked (List ℕ)) (bytes : List ℕ) → outcome ≡ fine bytes → take (length bytes) (write_room memory outcome) ≡ bytes
+pub front : (memory : List ℕ) (outcome : Checked (List ℕ)) (bytes : List ℕ) → outcome ≡ Ok bytes → take (length bytes) (write_room memory outcome) ≡ bytes
 unfolding write_room memory_after written_over
 front memory outcome bytes e = rw e (take_at bytes _ (length bytes) refl)
 
-module _ (voice : Voice) (source numbers memory bytes : List ℕ) (wrote : write_items_of voice source numbers (length memory) ≡ fine bytes) where
-  pub items_read_back : (all : List (Item Content)) × (items_given voice source numbers ≡ fine all)
+module _ (voice : Voice) (source numbers memory bytes : List ℕ) (wrote : write_items_of voice source numbers (length memory) ≡ Ok bytes) where
+  pub items_read_back : (all : List (Item Content)) × (items_given voice source numbers ≡ Ok all)
       × (placed : List (Placed (Item Event)))
-      × (body_of voice (take (length bytes) (write_room memory (write_items_of voice source numbers (length memory)))) ≡ fine placed)
+      × (body_of voice (take (length bytes) (write_room memory (write_items_of voice source numbers (length memory)))) ≡ Ok placed)
       × (contents_in (take (length bytes) (write_room memory (write_items_of voice source numbers (length memory)))) placed ≡ all)
   unfolding write_items_of within_room
   items_read_back =

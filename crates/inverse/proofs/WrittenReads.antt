@@ -6,7 +6,8 @@ use mathlib.Core.Path.{◌≡◌, refl, sym, ◌∙◌, ap, ap₂, subst}
 use lib.ListN.{length, length-append, length-map}
 use native.Mathlib.Nat.{add-zero}
 use native.Mathlib.Omega.{arith}
-use Rattle.model.specs.Words.{Placed, Checked.fine, Step.met}
+use Rattle.model.specs.Words.{Placed, Step.met}
+use Rattle.std.specs.Prelude.{Ok}
 use Rattle.model.specs.Item.{Item, Item.timed, Item.end_mark, item_met, item_step, body_of}
 use Rattle.model.specs.Plain.{item_bytes, bytes_of}
 use Rattle.model.specs.Content.{Content, content_in, contents_in, handy_phone}
@@ -49,7 +50,7 @@ module _ (voice : Voice) (s : List ℕ) where
   some_bytes (item ∷ rest) h st = let g : GoesOn (length s) 0 (met item st.0) = subst (GoesOn (length s) 0) st.1 (item_goes voice s 0) in omega arith
 
 pub sequence_reads : (voice : Voice) (items : List (Item Content)) → 0 < length items → AllFit voice items
-    → (placed : List (Placed (Item Event))) × (body_of voice (bytes_of handy_phone items) ≡ fine placed) × (contents_in (bytes_of handy_phone items) placed ≡ items)
+    → (placed : List (Placed (Item Event))) × (body_of voice (bytes_of handy_phone items) ≡ Ok placed) × (contents_in (bytes_of handy_phone items) placed ≡ items)
 unfolding contents_in
 sequence_reads voice items some fit =
     let s = bytes_of handy_phone items in

@@ -7,13 +7,14 @@ use lib.ListN.{length}
 use native.Mathlib.Decide.{dec_lt}
 use native.Mathlib.Omega.{arith}
 use borrow.Author.Tests.{eq-eqb, ne_eqb, eqb-true, eqb-false, lt-ltb}
-use Rattle.model.specs.Words.{when◌then◌else◌, ◌or◌, ◌<?◌, ◌≡?◌, any, keep, sum, Placed, Checked.fine, Step.met, Step.stuck}
+use Rattle.model.specs.Words.{when◌then◌else◌, ◌or◌, ◌<?◌, ◌≡?◌, any, keep, sum, Placed, Step.met, Step.stuck, Checked, refused}
+use Rattle.std.specs.Prelude.{Ok, Err}
 use Rattle.model.specs.Item.{Item, Item.timed, Item.end_mark, duration_of, lasting, item_at, item_met, item_step, body_of, is_fine, items_of}
 use Rattle.model.specs.Points.{is_address}
 use Rattle.model.specs.declared.Voice.{Voice}
 use Rattle.model.specs.declared.Event.{Event}
 use Rattle.model.specs.declared.ReadItem.{ReadItem}
-use Rattle.model.specs.declared.ReadItem.TheVariants.{Timed, EndMark, Refused}
+use Rattle.model.specs.declared.ReadItem.TheVariants.{Timed, EndMark}
 use Rattle.model.proofs.Tests.{by_test}
 use Rattle.model.proofs.Walks.{GoesOn, Stand, fine_found}
 use Rattle.items.specs.Passing.{EndsAt}
@@ -27,23 +28,23 @@ abbrev Standing : Voice → List ℕ → ℕ → Items → Type 0
 Standing voice s at items = Stand (length s) (item_step voice s) at items
 
 -- an item that stands at a place has that place, and ends past it, by three bytes or more, and within the body
-met_at : (at end : ℕ) (j : ReadItem) (item : Placed (Item Event)) (next : ℕ) → item_met at j ≡ met item next → item.place ≡ at
+met_at : (at end : ℕ) (j : Checked ReadItem) (item : Placed (Item Event)) (next : ℕ) → item_met at j ≡ met item next → item.place ≡ at
 unfolding item_met
-met_at at end (Timed duration event n) item next e = let same : ◌≡◌ {A = Placed (Item Event)} (record { place = at; what = timed duration event }) item = cc in ap (λ (i : Placed (Item Event)). i.place) (sym same)
-met_at at end (EndMark n) item next e = let same : ◌≡◌ {A = Placed (Item Event)} (record { place = at; what = end_mark }) item = cc in ap (λ (i : Placed (Item Event)). i.place) (sym same)
-met_at at end (Refused number place) item next e = let z : ◌≡◌ {A = ℕ} 0 1 = cc in absurd (omega arith)
+met_at at end (Ok (Timed duration event n)) item next e = let same : ◌≡◌ {A = Placed (Item Event)} (record { place = at; what = timed duration event }) item = cc in ap (λ (i : Placed (Item Event)). i.place) (sym same)
+met_at at end (Ok (EndMark n)) item next e = let same : ◌≡◌ {A = Placed (Item Event)} (record { place = at; what = end_mark }) item = cc in ap (λ (i : Placed (Item Event)). i.place) (sym same)
+met_at at end (Err why) item next e = let z : ◌≡◌ {A = ℕ} 0 1 = cc in absurd (omega arith)
 
-met_far : (at end : ℕ) (j : ReadItem) (item : Placed (Item Event)) (next : ℕ) → ItemAhead at end j → item_met at j ≡ met item next → at + 3 ≤ next
+met_far : (at end : ℕ) (j : Checked ReadItem) (item : Placed (Item Event)) (next : ℕ) → ItemAhead at end j → item_met at j ≡ met item next → at + 3 ≤ next
 unfolding item_met
-met_far at end (Timed duration event n) item next a e = let same : n ≡ next = cc in omega arith
-met_far at end (EndMark n) item next a e = let same : n ≡ next = cc in omega arith
-met_far at end (Refused number place) item next a e = let z : ◌≡◌ {A = ℕ} 0 1 = cc in absurd (omega arith)
+met_far at end (Ok (Timed duration event n)) item next a e = let same : n ≡ next = cc in omega arith
+met_far at end (Ok (EndMark n)) item next a e = let same : n ≡ next = cc in omega arith
+met_far at end (Err why) item next a e = let z : ◌≡◌ {A = ℕ} 0 1 = cc in absurd (omega arith)
 
-met_ends : (at : ℕ) (j : ReadItem) (item : Placed (Item Event)) (next place : ℕ) → item_met at j ≡ met item next → EndsAt place j → next ≡ place
+met_ends : (at : ℕ) (j : Checked ReadItem) (item : Placed (Item Event)) (next place : ℕ) → item_met at j ≡ met item next → EndsAt place j → next ≡ place
 unfolding item_met EndsAt
-met_ends at (Timed duration event n) item next place e h = let same : n ≡ next = cc in omega arith
-met_ends at (EndMark n) item next place e h = let same : n ≡ next = cc in omega arith
-met_ends at (Refused number there) item next place e h = let z : ◌≡◌ {A = ℕ} 0 1 = cc in absurd (omega arith)
+met_ends at (Ok (Timed duration event n)) item next place e h = let same : n ≡ next = cc in omega arith
+met_ends at (Ok (EndMark n)) item next place e h = let same : n ≡ next = cc in omega arith
+met_ends at (Err why) item next place e h = let z : ◌≡◌ {A = ℕ} 0 1 = cc in absurd (omega arith)
 
 module _ (voice : Voice) (s : List ℕ) (at : ℕ) (item : Placed (Item Event)) (next : ℕ) (e : item_step voice s at ≡ met item next) where
   pub placed_at : item.place ≡ at
@@ -58,8 +59,8 @@ module _ (voice : Voice) (s : List ℕ) (at : ℕ) (item : Placed (Item Event)) 
   stands_far = met_far at (length s) (item_at voice s at) item next (item_ahead voice s at) e
 
 -- what is read at a place is met there, and ends nearer to the body's end
-module _ (voice : Voice) (s : List ℕ) (at : ℕ) (i : ReadItem) (is : i ≡ item_at voice s at) where
-  module _ (duration next : ℕ) (event : Event) (e : i ≡ Timed duration event next) where
+module _ (voice : Voice) (s : List ℕ) (at : ℕ) (i : Checked ReadItem) (is : i ≡ item_at voice s at) where
+  module _ (duration next : ℕ) (event : Event) (e : i ≡ Ok (Timed duration event next)) where
     pub timed_met : item_step voice s at ≡ met (record { place = at; what = timed duration event }) next
     unfolding item_step item_met
     timed_met = ap (item_met at) (sym is ∙ e)
@@ -67,7 +68,7 @@ module _ (voice : Voice) (s : List ℕ) (at : ℕ) (i : ReadItem) (is : i ≡ it
     pub timed_nears : length s - next < length s - at
     timed_nears = omega (arith, stands_ahead voice s at _ next timed_met)
 
-  module _ (next : ℕ) (e : i ≡ EndMark next) where
+  module _ (next : ℕ) (e : i ≡ Ok (EndMark next)) where
     pub mark_met : item_step voice s at ≡ met (record { place = at; what = end_mark }) next
     unfolding item_step item_met
     mark_met = ap (item_met at) (sym is ∙ e)
@@ -75,7 +76,7 @@ module _ (voice : Voice) (s : List ℕ) (at : ℕ) (i : ReadItem) (is : i ≡ it
     pub mark_nears : length s - next < length s - at
     mark_nears = omega (arith, stands_ahead voice s at _ next mark_met)
 
-  pub refused_stuck : (number place : ℕ) → i ≡ Refused number place → item_step voice s at ≡ stuck number place
+  pub refused_stuck : (number place : ℕ) → i ≡ refused number place → item_step voice s at ≡ stuck number place
   unfolding item_step item_met
   refused_stuck number place e = ap (item_met at) (sym is ∙ e)
 
@@ -94,7 +95,7 @@ pub record Reaching (voice : Voice) (s : List ℕ) (address at : ℕ) : Type 0 w
   pub there : is_there rest (length s) address ≡ is_address (items_of voice s) (length s) address
 
 -- a body that reads reads to its items
-pub reads_to_items : (voice : Voice) (s : List ℕ) → is_fine (body_of voice s) ≡ true → body_of voice s ≡ fine (items_of voice s)
+pub reads_to_items : (voice : Voice) (s : List ℕ) → is_fine (body_of voice s) ≡ true → body_of voice s ≡ Ok (items_of voice s)
 unfolding items_of
 reads_to_items voice s h = fine_found (body_of voice s) h
 

@@ -6,35 +6,35 @@ use mathlib.Core.Path.{◌≡◌, refl, sym, ◌∙◌, subst}
 use lib.ListN.{length}
 use native.Mathlib.Omega.{arith}
 use borrow.Author.Tests.{lt-leb, lt-ltb, ne_eqb, eqb-true, le-leb, leb-true, ltb-true, eqb-false, not-true}
-use Rattle.model.specs.Words.{when◌then◌else◌, ◌and◌, ◌≤?◌, ◌≡?◌}
+use Rattle.model.specs.Words.{when◌then◌else◌, ◌and◌, ◌≤?◌, ◌≡?◌, ◌up_to◌, Checked, refused}
 use Rattle.model.specs.Bytes.{◌!◌}
 use Rattle.model.specs.Duration.{duration_at, not_zero, gate_at}
 use Rattle.model.specs.Event.{is_sound, gated, sound_at, event_at, sound}
 use Rattle.model.specs.Item.{is_end_mark, with_event, with_duration, item_at}
 use Rattle.model.specs.declared.Voice.{Voice}
 use Rattle.model.specs.declared.Event.{Event}
-use Rattle.model.specs.declared.ReadDuration.{ReadDuration}
-use Rattle.model.specs.declared.ReadDuration.TheVariants as duration
-use Rattle.model.specs.declared.ReadEvent.{ReadEvent}
+use Rattle.std.specs.Prelude.{Ok, Err}
+use Rattle.model.specs.declared.Read.{Read}
+use Rattle.model.specs.declared.Refusal.{Refusal}
 use Rattle.model.specs.declared.ReadItem.{ReadItem}
-use Rattle.model.specs.declared.ReadItem.TheVariants.{Timed, EndMark, Refused}
+use Rattle.model.specs.declared.ReadItem.TheVariants.{Timed, EndMark}
 use Rattle.model.proofs.Tests.{by_test, if_all, and_left, and_right}
 use Rattle.items.specs.Passing.{EndsAt, is_short}
 
 -- AN ITEM THAT IS READ
 
-module _ (voice : Voice) (s : List ℕ) (at : ℕ) (i : ReadItem) (is : i ≡ item_at voice s at) where
-  pub read_ends : (duration next : ℕ) (event : Event) → i ≡ Timed duration event next → EndsAt next (item_at voice s at)
+module _ (voice : Voice) (s : List ℕ) (at : ℕ) (i : Checked ReadItem) (is : i ≡ item_at voice s at) where
+  pub read_ends : (duration next : ℕ) (event : Event) → i ≡ Ok (Timed duration event next) → EndsAt next (item_at voice s at)
   unfolding EndsAt
   read_ends duration next event e = subst (EndsAt next) (sym e ∙ is) refl
 
-  pub mark_ends : (next : ℕ) → i ≡ EndMark next → EndsAt next (item_at voice s at)
+  pub mark_ends : (next : ℕ) → i ≡ Ok (EndMark next) → EndsAt next (item_at voice s at)
   unfolding EndsAt
   mark_ends next e = subst (EndsAt next) (sym e ∙ is) refl
 
-  pub none_ends : (place number there : ℕ) → i ≡ Refused number there → EndsAt place (item_at voice s at)
+  pub none_ends : (place : ℕ) (why : Refusal) → i ≡ Err why → EndsAt place (item_at voice s at)
   unfolding EndsAt
-  none_ends place number there e = subst (EndsAt place) (sym e ∙ is) tt
+  none_ends place why e = subst (EndsAt place) (sym e ∙ is) tt
 
 -- A NOTE OR WAVE after a duration of one byte
 
@@ -55,30 +55,30 @@ module _ (voice : Voice) (s : List ℕ) (at : ℕ) (there : at + 1 < length s) (
 
   -- and its gate time takes one byte too
   module _ (room : at + 2 < length s) (short : s ! (at + 2) < 128) where
-    gate_is : gate_at s (at + 1 + 1) ≡ not_zero (at + 2) (duration.Is (s ! (at + 2)) (at + 3))
+    gate_is : gate_at s (at + 1 + 1) ≡ not_zero (at + 2) (Ok ((s ! (at + 2)) up_to (at + 3)))
     unfolding gate_at duration_at when◌then◌else◌
     gate_is =
         let place : at + 1 + 1 ≡ at + 2 = omega arith in
         let after : at + 2 + 1 ≡ at + 3 = omega arith in
         simp (place, lt-leb, lt-ltb, after)
 
-    gated_ends : EndsAt (at + 3) (with_event (s ! at) (gated voice (s ! (at + 1)) (not_zero (at + 2) (duration.Is (s ! (at + 2)) (at + 3)))))
+    gated_ends : EndsAt (at + 3) (with_event (s ! at) (gated voice (s ! (at + 1)) (not_zero (at + 2) (Ok ((s ! (at + 2)) up_to (at + 3))))))
     unfolding not_zero gated with_event EndsAt
     gated_ends =
-        if_all (λ (d : ReadDuration). EndsAt (at + 3) (with_event (s ! at) (gated voice (s ! (at + 1)) d))) (s ! (at + 2) ≡? 0) _ _ (λ t. tt) (λ t. refl)
+        if_all (λ (d : Checked (Read ℕ)). EndsAt (at + 3) (with_event (s ! at) (gated voice (s ! (at + 1)) d))) (s ! (at + 2) ≡? 0) _ _ (λ t. tt) (λ t. refl)
 
     pub short_ends : EndsAt (at + 3) (item_at voice s at)
     unfolding sound_at with_event EndsAt
     short_ends =
         subst (EndsAt (at + 3)) (sym sounds_here)
-        (if_all (λ (e : ReadEvent). EndsAt (at + 3) (with_event (s ! at) e)) (is_sound voice (s ! (at + 1))) _ _
-        (λ t. subst (λ (d : ReadDuration). EndsAt (at + 3) (with_event (s ! at) (gated voice (s ! (at + 1)) d))) (sym gate_is) gated_ends)
+        (if_all (λ (e : Checked (Read Event)). EndsAt (at + 3) (with_event (s ! at) e)) (is_sound voice (s ! (at + 1))) _ _
+        (λ t. subst (λ (d : Checked (Read ℕ)). EndsAt (at + 3) (with_event (s ! at) (gated voice (s ! (at + 1)) d))) (sym gate_is) gated_ends)
         (λ t. tt))
 
 -- A SHORT ONE, as a test tells it
 
 pub record Short (voice : Voice) (s : List ℕ) (at : ℕ) : Type 0 where
-  pub is : item_at voice s at ≡ Timed (s ! at) (sound voice (s ! (at + 1)) (s ! (at + 2))) (at + 3)
+  pub is : item_at voice s at ≡ Ok (Timed (s ! at) (sound voice (s ! (at + 1)) (s ! (at + 2))) (at + 3))
   pub within : at + 3 ≤ length s
   pub one : s ! at < 128
 

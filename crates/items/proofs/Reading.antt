@@ -9,15 +9,16 @@ use native.Mathlib.Omega.{arith}
 use mir.Val.{Fits}
 use mir.Syntax.{w64}
 use borrow.Author.Tests.{eq-eqb, ne_eqb}
-use Rattle.model.specs.Words.{when◌then◌else◌, sum, Placed, Checked, Checked.fine, Checked.refused, Step.met, walk_to, in_turn, unasked}
+use Rattle.model.specs.Words.{when◌then◌else◌, sum, Placed, Checked, Step.met, walk_to, in_turn, unasked, refused}
+use Rattle.std.specs.Prelude.{Ok, Err}
+use Rattle.model.specs.declared.Refusal.{Refusal}
 use Rattle.model.specs.Bytes.{◌!◌}
 use Rattle.model.specs.Item.{Item, Item.timed, Item.end_mark, duration_of, lasting, item_at, item_step, body_of, body_answer}
 use Rattle.model.specs.declared.Voice.{Voice}
 use Rattle.model.specs.declared.Event.{Event}
 use Rattle.model.specs.declared.ReadItem.{ReadItem}
-use Rattle.model.specs.declared.ReadItem.TheVariants.{Timed, EndMark, Refused}
-use Rattle.model.specs.declared.ReadBody.{ReadBody}
-use Rattle.model.specs.declared.ReadBody.TheVariants as body
+use Rattle.model.specs.declared.ReadItem.TheVariants.{Timed, EndMark}
+use Rattle.model.specs.declared.WalkedBody.{WalkedBody}
 use Rattle.model.proofs.Walks.{with_first, Left, left_starts, left_ends, left_stuck, left_next}
 use Rattle.items.specs.Passing.{is_short}
 use Rattle.items.proofs.Passing.{Short, short_stands}
@@ -27,24 +28,27 @@ abbrev Items : Type 0
 Items = List (Placed (Item Event))
 
 -- the answer for a body of which so many items, that last so long, are read, and what is left is found
-unfoldable pub onto : ℕ → ℕ → Checked (List (Placed (Item Event))) → ReadBody
-onto count lasts (fine items) = body.Whole (count + length items) (lasts + lasting items)
-onto count lasts (refused number place) = body.Refused number place
+unfoldable pub onto : ℕ → ℕ → Checked (List (Placed (Item Event))) → Checked WalkedBody
+onto count lasts (Ok items) = Ok (record { count = (count + length items); duration = lasts + lasting items })
+onto count lasts (Err why) = Err why
+
+abbrev walked : ℕ → ℕ → Checked WalkedBody
+walked count duration = Ok (record { count = count; duration = duration })
 
 onto_none : (found : Checked Items) → onto 0 0 found ≡ body_answer found
 unfolding onto body_answer
-onto_none (fine items) = simp zero-add
-onto_none (refused number place) = refl
+onto_none (Ok items) = simp zero-add
+onto_none (Err why) = refl
 
-onto_nil : (count lasts : ℕ) → onto count lasts (fine []) ≡ body.Whole count lasts
+onto_nil : (count lasts : ℕ) → onto count lasts (Ok []) ≡ Ok (record { count = count; duration = lasts })
 unfolding onto lasting sum
 onto_nil count lasts = simp add-zero
 
 onto_first : (count lasts : ℕ) (item : Placed (Item Event)) (found : Checked Items)
     → onto count lasts (with_first item found) ≡ onto (count + 1) (lasts + duration_of item.what) found
 unfolding onto with_first lasting sum
-onto_first count lasts item (fine items) = ap₂ body.Whole (omega arith) (omega arith)
-onto_first count lasts item (refused number place) = refl
+onto_first count lasts item (Ok items) = ap₂ walked (omega arith) (omega arith)
+onto_first count lasts item (Err why) = refl
 
 pub record Reading (voice : Voice) (s : List ℕ) (at count lasts : ℕ) : Type 0 where
   pub before : List (Placed (Item Event))
@@ -54,7 +58,7 @@ pub record Reading (voice : Voice) (s : List ℕ) (at count lasts : ℕ) : Type 
   pub small : lasts ≤ 4294967296 * at
   pub same : onto count lasts left ≡ body_answer (body_of voice s)
 
-pub body_empty : (voice : Voice) (s : List ℕ) → length s ≡ 0 → body.Refused 11 0 ≡ body_answer (body_of voice s)
+pub body_empty : (voice : Voice) (s : List ℕ) → length s ≡ 0 → refused 11 0 ≡ body_answer (body_of voice s)
 unfolding body_of when◌then◌else◌ body_answer
 body_empty voice s h = simp eq-eqb
 
@@ -71,7 +75,7 @@ body_starts voice s h =
     }
 
 module _ (voice : Voice) (s : List ℕ) (at count lasts : ℕ) (r : Reading voice s at count lasts) where
-  pub body_ends_lem : length s ≤ at → body.Whole count lasts ≡ body_answer (body_of voice s)
+  pub body_ends_lem : length s ≤ at → Ok (record { count = count; duration = lasts }) ≡ body_answer (body_of voice s)
   body_ends_lem h =
       sym (onto_nil count lasts) ∙ ap (onto count lasts) (sym (left_ends _ _ _ _ at r.before r.left r.walk h)) ∙ r.same
 
@@ -91,19 +95,19 @@ module _ (voice : Voice) (s : List ℕ) (at count lasts : ℕ) (r : Reading voic
         same = sym (onto_first count lasts item n.0) ∙ ap (onto count lasts) (sym n.2) ∙ r.same;
       }
 
-  module _ (i : ReadItem) (here : at < length s) (is : i ≡ item_at voice s at) where
-    pub body_refused : (number place : ℕ) → i ≡ Refused number place → body.Refused number place ≡ body_answer (body_of voice s)
+  module _ (i : Checked ReadItem) (here : at < length s) (is : i ≡ item_at voice s at) where
+    pub body_refused : (why : Refusal) → i ≡ Err why → Err why ≡ body_answer (body_of voice s)
     unfolding onto
-    body_refused number place e =
-        let stuck_here = refused_stuck voice s at i is number place e in
-        ap (onto count lasts) (sym (left_stuck _ _ _ _ at r.before r.left r.walk number place here stuck_here)) ∙ r.same
+    body_refused why e =
+        let stuck_here = refused_stuck voice s at i is why.number why.place e in
+        ap (onto count lasts) (sym (left_stuck _ _ _ _ at r.before r.left r.walk why.number why.place here stuck_here)) ∙ r.same
 
-    pub body_reads : (duration next : ℕ) (event : Event) → i ≡ Timed duration event next → duration < 4294967296
+    pub body_reads : (duration next : ℕ) (event : Event) → i ≡ Ok (Timed duration event next) → duration < 4294967296
         → Reading voice s next (count + 1) (lasts + duration)
     unfolding duration_of
     body_reads duration next event e short = further (timed duration event) next here (timed_met voice s at i is duration next event e) short
 
-    pub body_marks : (next : ℕ) → i ≡ EndMark next → Reading voice s next (count + 1) lasts
+    pub body_marks : (next : ℕ) → i ≡ Ok (EndMark next) → Reading voice s next (count + 1) lasts
     unfolding duration_of
     body_marks next e =
         subst (Reading voice s next (count + 1)) (add-zero lasts) (further end_mark next here (mark_met voice s at i is next e) (omega arith))

@@ -6,12 +6,12 @@ use mathlib.Core.Path.{◌≡◌, refl, sym, ◌∙◌, ap, subst}
 use lib.ListN.{length}
 use native.Mathlib.Omega.{arith}
 use borrow.Author.Tests.{eq-eqb, ne_eqb, le-leb, lt-leb}
-use Rattle.model.specs.Words.{when◌then◌else◌, ◌≤?◌, Checked, walk_to, in_turn, unasked}
+use Rattle.model.specs.Words.{when◌then◌else◌, ◌≤?◌, Checked, walk_to, in_turn, unasked, ◌up_to◌, refused}
 use Rattle.model.specs.Item.{setup_message_at, message_met, setup_step, setup_of, check_answer}
 use Rattle.model.specs.declared.Event.{Event}
-use Rattle.model.specs.declared.ReadEvent.{ReadEvent}
-use Rattle.model.specs.declared.ReadEvent.TheVariants as event
-use Rattle.model.specs.declared.Check.TheVariants as check
+use Rattle.std.specs.Prelude.{Ok, Err}
+use Rattle.model.specs.declared.Refusal.{Refusal}
+use Rattle.model.specs.declared.Read.{Read}
 use Rattle.model.proofs.Answers.{answer_first}
 use Rattle.model.proofs.Walks.{GoesOn, Left, left_starts, left_ends, left_stuck, left_next}
 use Rattle.items.proofs.Ahead.{message_goes}
@@ -22,7 +22,7 @@ pub record SettingUp (s : List ℕ) (at : ℕ) : Type 0 where
   pub walk : Left 10 (length s) (setup_step s) unasked at before left
   pub same : check_answer left ≡ check_answer (setup_of s)
 
-pub setup_empty : (s : List ℕ) → length s ≡ 0 → check.Refused 10 0 ≡ check_answer (setup_of s)
+pub setup_empty : (s : List ℕ) → length s ≡ 0 → refused 10 0 ≡ check_answer (setup_of s)
 unfolding setup_of when◌then◌else◌ check_answer
 setup_empty s h = simp eq-eqb
 
@@ -37,37 +37,37 @@ setup_starts s h =
     }
 
 module _ (s : List ℕ) (at : ℕ) (r : SettingUp s at) where
-  pub setup_ends : length s ≤ at → check.Passed ≡ check_answer (setup_of s)
+  pub setup_ends : length s ≤ at → Ok tt ≡ check_answer (setup_of s)
   unfolding check_answer
   setup_ends h = ap check_answer (sym (left_ends _ _ _ _ at r.before r.left r.walk h)) ∙ r.same
 
-  module _ (i : ReadEvent) (here : at < length s) (is : i ≡ setup_message_at s at) where
-    stands : (j : ReadEvent) → i ≡ j → setup_step s at ≡ message_met at j
+  module _ (i : Checked (Read Event)) (here : at < length s) (is : i ≡ setup_message_at s at) where
+    stands : (j : Checked (Read Event)) → i ≡ j → setup_step s at ≡ message_met at j
     unfolding setup_step
     stands j e = ap (message_met at) (sym is ∙ e)
 
-    pub setup_refused : (number place : ℕ) → i ≡ event.Refused number place → check.Refused 10 at ≡ check_answer (setup_of s)
+    pub setup_refused : (why : Refusal) → i ≡ Err why → refused 10 at ≡ check_answer (setup_of s)
     unfolding message_met check_answer
-    setup_refused number place e =
-        ap check_answer (sym (left_stuck _ _ _ _ at r.before r.left r.walk 10 at here (stands (event.Refused number place) e))) ∙ r.same
+    setup_refused why e =
+        ap check_answer (sym (left_stuck _ _ _ _ at r.before r.left r.walk 10 at here (stands (Err why) e))) ∙ r.same
 
-    ahead : (next : ℕ) (message : Event) → i ≡ event.Is message next → (at < next) × (next ≤ length s)
+    ahead : (message : Read Event) → i ≡ Ok message → (at < message.next) × (message.next ≤ length s)
     unfolding message_met
-    ahead next message e = subst (GoesOn (length s) at) (stands (event.Is message next) e) (message_goes s at)
+    ahead message e = subst (GoesOn (length s) at) (stands (Ok message) e) (message_goes s at)
 
-    pub setup_nears : (next : ℕ) (message : Event) → i ≡ event.Is message next → length s - next < length s - at
-    setup_nears next message e = let a = ahead next message e in omega arith
+    pub setup_nears : (message : Read Event) → i ≡ Ok message → length s - message.next < length s - at
+    setup_nears message e = let a = ahead message e in omega arith
 
-    pub setup_reads : (next : ℕ) (message : Event) → i ≡ event.Is message next → SettingUp s next
+    pub setup_reads : (message : Read Event) → i ≡ Ok message → SettingUp s message.next
     unfolding message_met
-    setup_reads next message e =
-        let a = ahead next message e in
-        let n = left_next _ _ _ _ at r.before r.left r.walk message next here (stands (event.Is message next) e) (omega arith) refl in
+    setup_reads message e =
+        let a = ahead message e in
+        let n = left_next _ _ _ _ at r.before r.left r.walk message.what message.next here (stands (Ok message) e) (omega arith) refl in
         record {
-          before = message ∷ r.before;
+          before = message.what ∷ r.before;
           left = n.0;
           walk = n.1;
-          same = sym (answer_first message n.0) ∙ ap check_answer (sym n.2) ∙ r.same;
+          same = sym (answer_first message.what n.0) ∙ ap check_answer (sym n.2) ∙ r.same;
         }
 
 -- the room for a message's first two bytes, as the code tests it

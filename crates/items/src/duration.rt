@@ -2,70 +2,50 @@
 ghost use Rattle.std.specs.Prelude.{◌≡◌, ◌≤◌};
 ghost use Rattle.model.specs.Duration.{duration_at, gate_at, two_byte_value};
 
-use model::ReadDuration;
-
-fn wide(byte: u8) -> u32
-    ensures { result ≡ byte }
-{
-    byte as u32
-}
+use model::{Read, Refusal, refused};
 
 fn two_byte_value(one: u8, two: u8) -> u32
     requires { 128 ≤ one }
     ensures { result ≡ two_byte_value one two }
 {
-    128 * (one as u32 - 128) + two as u32 + 128
+    128 * (u32::from(one) - 128) + u32::from(two) + 128
 }
 
-pub fn read_duration(s: &[u8], at: usize) -> ReadDuration
+#[tactic(auto, using(model::proofs::Tests::tests), unfolding(model::specs::Duration::duration_at))]
+pub fn read_duration(s: &[u8], at: usize) -> Result<Read<u32>, Refusal>
     ensures { result ≡ duration_at s.now at }
 {
     if s.len() <= at {
-        return ReadDuration::Refused {
-            number: 20,
-            place: s.len(),
-        };
+        return refused(20, s.len());
     }
     let one = s[at];
     let next = at + 1;
     if one < 128 {
-        return ReadDuration::Is {
-            value: wide(one),
+        return Ok(Read {
+            what: u32::from(one),
             next,
-        };
+        });
     }
     if s.len() <= next {
-        return ReadDuration::Refused {
-            number: 20,
-            place: s.len(),
-        };
+        return refused(20, s.len());
     }
     let two = s[next];
     if two < 128 {
-        return ReadDuration::Is {
-            value: two_byte_value(one, two),
+        return Ok(Read {
+            what: two_byte_value(one, two),
             next: at + 2,
-        };
+        });
     }
-    ReadDuration::Refused {
-        number: 23,
-        place: next,
-    }
+    refused(23, next)
 }
 
-pub fn read_gate(s: &[u8], at: usize) -> ReadDuration
+#[tactic(auto, using(model::proofs::Tests::tests), unfolding(model::specs::Duration::gate_at, model::specs::Duration::not_zero))]
+pub fn read_gate(s: &[u8], at: usize) -> Result<Read<u32>, Refusal>
     ensures { result ≡ gate_at s.now at }
 {
-    match read_duration(s, at) {
-        ReadDuration::Is { value, next } => {
-            if value == 0 {
-                return ReadDuration::Refused {
-                    number: 21,
-                    place: at,
-                };
-            }
-            ReadDuration::Is { value, next }
-        }
-        ReadDuration::Refused { number, place } => ReadDuration::Refused { number, place },
+    let Read { what: value, next } = read_duration(s, at)?;
+    if value == 0 {
+        return refused(21, at);
     }
+    Ok(Read { what: value, next })
 }

@@ -12,43 +12,30 @@ fn pass_read(voice: Voice, s: &[u8], at: usize) -> usize
     ensures { EndsAt result (item_at voice s.now at) }
 {
     match read_item(voice, s, at) {
-        ReadItem::Timed {
-            duration: _,
-            event: _,
-            next,
-        } => next,
-        ReadItem::EndMark { next } => next,
-        ReadItem::Refused {
-            number: _,
-            place: _,
-        } => 0,
+        Ok(ReadItem::Timed { next, .. }) => next,
+        Ok(ReadItem::EndMark { next }) => next,
+        Err(_) => 0,
     }
 }
 
+#[tactic(auto, using(crate::proofs::Passing::short_ends))]
 pub fn pass_item(voice: Voice, s: &[u8], at: usize) -> usize
     requires { at < length s.now }
     ensures { EndsAt result (item_at voice s.now at) }
 {
-    if s.len() - at < 3 {
-        return pass_read(voice, s, at);
+    if 3 <= s.len() - at
+        && s[at] < 128
+        && s[at + 1] != 0x00
+        && s[at + 1] != 0xFF
+        && s[at + 2] < 128
+    {
+        return at + 3;
     }
-    if 128 <= s[at] {
-        return pass_read(voice, s, at);
-    }
-    let byte = s[at + 1];
-    if byte == 0x00 {
-        return pass_read(voice, s, at);
-    }
-    if byte == 0xFF {
-        return pass_read(voice, s, at);
-    }
-    if 128 <= s[at + 2] {
-        return pass_read(voice, s, at);
-    }
-    at + 3
+    pass_read(voice, s, at)
 }
 
 // Whether a short note or wave stands at a place, and is not refused.
+#[tactic(auto, using(crate::proofs::Passing::shorts, model::proofs::Tests::tests, model::proofs::Tests::junctions), unfolding(crate::specs::Passing::is_short))]
 pub fn is_short(voice: Voice, s: &[u8], at: usize) -> bool
     requires { at < length s.now }
     ensures { result ≡ is_short voice s.now at }
@@ -56,22 +43,11 @@ pub fn is_short(voice: Voice, s: &[u8], at: usize) -> bool
     if s.len() - at < 3 {
         return false;
     }
-    if 128 <= s[at] {
-        return false;
-    }
-    let byte = s[at + 1];
-    if byte == 0x00 {
-        return false;
-    }
-    if byte == 0xFF {
-        return false;
-    }
-    let gate = s[at + 2];
-    if gate == 0 {
-        return false;
-    }
-    if 128 <= gate {
-        return false;
-    }
-    is_sound(voice, byte)
+    let [duration, byte, gate] = [s[at], s[at + 1], s[at + 2]];
+    duration < 128
+        && byte != 0x00
+        && byte != 0xFF
+        && 0 < gate
+        && gate < 128
+        && is_sound(voice, byte)
 }

@@ -15,6 +15,7 @@ const EXPRESSION: [u8; 15] = [
 ];
 
 // The standard value of a short form's 4 bits, by its kind; 0 past the 14 that there are.
+#[tactic(auto, using(model::proofs::Tests::tests, crate::proofs::Matches::standard_past), unfolding(model::specs::Event::standard_value))]
 pub fn standard_value(kind: u8, short: u8) -> u8
     ensures { result ≡ standard_value kind short }
 {

@@ -9,17 +9,16 @@ use mir.Syntax.{w64}
 use lib.ListN.{length}
 use native.Mathlib.Omega.{arith}
 use borrow.Author.Tests.{le-ltb, lt-leb}
-use Rattle.model.specs.Words.{Checked, Checked.fine, each}
+use Rattle.model.specs.Words.{Checked, each}
+use Rattle.std.specs.Prelude.{Ok, Option, Some, None}
 use Rattle.model.specs.Item.{is_fine}
 use Rattle.model.specs.TimeBase.{milliseconds}
 use Rattle.model.specs.Chunk.{Chunk, read_chunk, chunk_step}
 use Rattle.model.specs.Track.{voice_of}
 use Rattle.model.specs.File.{File, Top, Top.leaf, Top.readable, top_of, contents_of}
 use Rattle.model.specs.declared.ReadChunk.{ReadChunk}
-use Rattle.model.specs.declared.ReadChunk.TheVariants as chunk
-use Rattle.model.specs.declared.ReadTop.{ReadTop}
-use Rattle.model.specs.declared.ReadTop.TheVariants as top
-use Rattle.model.specs.declared.FirstTrack.TheVariants.{At, Nowhere}
+use Rattle.model.specs.declared.TopChunk.{TopChunk}
+use Rattle.model.specs.declared.TopChunk.TheVariants.{Track, Leaf}
 use Rattle.model.proofs.Outcomes.{fine_some}
 use Rattle.model.proofs.Tests.{if_false}
 use Rattle.model.proofs.Walks.{Stand}
@@ -34,7 +33,7 @@ pub record Nearing (s : List ℕ) (end k at : ℕ) : Type 0 where
   pub rest : List Chunk
   pub tops : List Top
   pub stand : Stand end (chunk_step s end) at rest
-  pub opens : each (top_of s) rest ≡ fine tops
+  pub opens : each (top_of s) rest ≡ Ok tops
   pub within : at ≤ end
   pub last : end ≡ length s - 2
   pub long : 10 ≤ length s
@@ -69,18 +68,18 @@ module _ (s : List ℕ) (ok : is_fine (contents_of s) ≡ true) where
       }
 
 module _ (s : List ℕ) (end k at : ℕ) (w : Nearing s end k at) where
-  pub near_ends : end ≤ at → Nowhere ≡ first_of 1 (tops_of (contents_of s))
+  pub near_ends : end ≤ at → None ≡ first_of 1 (tops_of (contents_of s))
   unfolding first_of
   near_ends past =
       let over = none_left s end at w.within w.rest w.stand past in
-      let none_there = each_none (top_of s) w.tops (subst (λ (chunks : List Chunk). each (top_of s) chunks ≡ fine w.tops) over w.opens) in
+      let none_there = each_none (top_of s) w.tops (subst (λ (chunks : List Chunk). each (top_of s) chunks ≡ Ok w.tops) over w.opens) in
       sym (ap (first_of k) none_there) ∙ w.same
 
   -- what the head meets at the place
-  abbrev Meets : ReadTop → Type 0
-  Meets (top.Track ms) = At k ms ≡ first_of 1 (tops_of (contents_of s))
-  Meets (top.Leaf next) = Nearing s end (k + 1) next × (end - next < end - at)
-  Meets top.Cut = ⊥
+  abbrev Meets : Option TopChunk → Type 0
+  Meets (Some (Track ms)) = Some (record { row = k; milliseconds = ms }) ≡ first_of 1 (tops_of (contents_of s))
+  Meets (Some (Leaf next)) = Nearing s end (k + 1) next × (end - next < end - at)
+  Meets None = ⊥
 
   module _ (here : at < end) where
     met_chunk : top_met s at ≡ chunk_top s at (read_chunk s end at)
@@ -91,17 +90,17 @@ module _ (s : List ℕ) (end k at : ℕ) (w : Nearing s end k at) where
         ∙ if_false _ _ _ (lt-leb (length s - 2) at (omega (arith, w.last)))
         ∙ ap (λ (n : ℕ). chunk_top s at (read_chunk s n at)) (sym w.last)
 
-    module _ (id size next : ℕ) (is : read_chunk s end at ≡ chunk.Is id size next) where
-      ahead : ChunkAhead s end at (chunk.Is id size next)
+    module _ (read : ReadChunk) (is : read_chunk s end at ≡ Some read) where
+      ahead : ChunkAhead s end at (Some read)
       ahead = subst (ChunkAhead s end at) is (chunk_ahead s end at w.within)
 
-      meets_top : (one : Top) (rest : List Chunk) (tops : List Top) → Stand end (chunk_step s end) next rest → each (top_of s) rest ≡ fine tops
-          → OpenedAs s (placed s at size) one → first_of k (one ∷ tops) ≡ first_of 1 (tops_of (contents_of s))
-          → Meets (voiced_top s at size next (voice_of s (placed s at size)))
+      meets_top : (one : Top) (rest : List Chunk) (tops : List Top) → Stand end (chunk_step s end) read.next rest → each (top_of s) rest ≡ Ok tops
+          → OpenedAs s (placed s at read.size) one → first_of k (one ∷ tops) ≡ first_of 1 (tops_of (contents_of s))
+          → Meets (voiced_top s at read.size read.next (voice_of s (placed s at read.size)))
       unfolding first_of voiced_top
       meets_top (leaf found) rest tops stand opens opened same =
           let a = ahead in
-          subst (λ v. Meets (voiced_top s at size next v)) (sym opened.1) (
+          subst (λ v. Meets (voiced_top s at read.size read.next v)) (sym opened.1) (
             record {
               rest = rest;
               tops = tops;
@@ -118,44 +117,45 @@ module _ (s : List ℕ) (end k at : ℕ) (w : Nearing s end k at) where
           )
       meets_top (readable found track) rest tops stand opens opened same =
           let voice = opened.1 in
-          let made = track_made s voice (placed s at size) track opened.3 in
-          let room = fixed_inside s voice (placed s at size) track opened.3 in
-          subst (λ v. Meets (voiced_top s at size next v)) (sym opened.2)
-          (subst Meets (sym (if_false _ _ _ (le-ltb size 6 room))) (ap (λ (code : ℕ). At k (milliseconds code)) (sym made.based) ∙ same))
+          let made = track_made s voice (placed s at read.size) track opened.3 in
+          let room = fixed_inside s voice (placed s at read.size) track opened.3 in
+          subst (λ v. Meets (voiced_top s at read.size read.next v)) (sym opened.2)
+          (subst Meets (sym (if_false _ _ _ (le-ltb read.size 6 room))) (ap (λ (code : ℕ). (Some (record { row = k; milliseconds = milliseconds code }))) (sym made.based) ∙ same))
 
-      meets_chunk : Meets (voiced_top s at size next (voice_of s (placed s at size)))
+      meets_chunk : Meets (voiced_top s at read.size read.next (voice_of s (placed s at read.size)))
       meets_chunk =
-          let l = first_left s end at w.within (read_chunk s end at) refl w.rest id size next here w.stand is in
-          let o = each_fine (top_of s) (record { id = id; place = at; size = size }) l.0 w.tops
-          (subst (λ (chunks : List Chunk). each (top_of s) chunks ≡ fine w.tops) l.1 w.opens) in
+          let l = first_left s end at w.within (read_chunk s end at) refl w.rest read here w.stand is in
+          let o = each_fine (top_of s) (record { id = read.id; place = at; size = read.size }) l.0 w.tops
+          (subst (λ (chunks : List Chunk). each (top_of s) chunks ≡ Ok w.tops) l.1 w.opens) in
           meets_top o.0 l.0 o.1 l.2 o.3
-          (opened_as s (placed s at size) o.0 (ap (λ (n : ℕ). top_of s (record { id = n; place = at; size = size })) (sym ahead.0) ∙ o.2))
+          (opened_as s (placed s at read.size) o.0 (ap (λ (n : ℕ). top_of s (record { id = n; place = at; size = read.size })) (sym ahead.0) ∙ o.2))
           (ap (first_of k) (sym o.4) ∙ w.same)
 
     meets : Meets (top_met s at)
     unfolding chunk_top
     meets = subst Meets (sym met_chunk) (go (read_chunk s end at) refl)
       where
-        go : (c : ReadChunk) → read_chunk s end at ≡ c → Meets (chunk_top s at c)
-        go (chunk.Is id size next) is = meets_chunk id size next is
-        go chunk.Cut is = absurd (never_cut s end at w.within (read_chunk s end at) refl w.rest here w.stand is)
+        go : (c : Option ReadChunk) → read_chunk s end at ≡ c → Meets (chunk_top s at c)
+        go (Some read) is = meets_chunk read is
+        go None is = absurd (never_cut s end at w.within (read_chunk s end at) refl w.rest here w.stand is)
 
-    module _ (r : ReadTop) (is : r ≡ top_met s at) where
-      pub near_track : (ms : ℕ) → r ≡ top.Track ms → At k ms ≡ first_of 1 (tops_of (contents_of s))
-      near_track ms e = subst Meets (sym is ∙ e) meets
-
-      pub near_cut : r ≡ top.Cut → Nowhere ≡ first_of 1 (tops_of (contents_of s))
+    module _ (r : Option TopChunk) (is : r ≡ top_met s at) where
+      pub near_cut : r ≡ None → None ≡ first_of 1 (tops_of (contents_of s))
       near_cut e = absurd (subst Meets (sym is ∙ e) meets)
 
-      module _ (next : ℕ) (e : r ≡ top.Leaf next) where
-        leaf_met : Nearing s end (k + 1) next × (end - next < end - at)
-        leaf_met = subst Meets (sym is ∙ e) meets
+      module _ (top : TopChunk) (e : r ≡ Some top) where
+        pub near_track : (ms : ℕ) → top ≡ Track ms → Some (record { row = k; milliseconds = ms }) ≡ first_of 1 (tops_of (contents_of s))
+        near_track ms t = subst Meets (sym is ∙ e ∙ ap (λ (x : TopChunk). Some x) t) meets
 
-        pub near_next : Nearing s end (k + 1) next
-        near_next = leaf_met.0
+        module _ (next : ℕ) (t : top ≡ Leaf next) where
+          leaf_met : Nearing s end (k + 1) next × (end - next < end - at)
+          leaf_met = subst Meets (sym is ∙ e ∙ ap (λ (x : TopChunk). Some x) t) meets
 
-        pub near_nears : end - next < end - at
-        near_nears = leaf_met.1
+          pub near_next : Nearing s end (k + 1) next
+          near_next = leaf_met.0
+
+          pub near_nears : end - next < end - at
+          near_nears = leaf_met.1
 
     pub near_fits : Fits w64 (k + 1)
     near_fits = record { fits = omega (arith, w.few, w.within, w.last, w.small) }

@@ -8,7 +8,8 @@ use lib.Seq.{sets}
 use native.Mathlib.Omega.{arith}
 use borrow.Author.Tests.{ltb-false}
 use Rattle.sections.specs.Spans.{Rising}
-use Rattle.model.specs.Words.{◌<?◌, Checked, Checked.fine, Checked.refused}
+use Rattle.model.specs.Words.{◌<?◌, Checked, refused}
+use Rattle.std.specs.Prelude.{Ok, Err}
 use Rattle.model.specs.Bytes.{◌!◌}
 use Rattle.model.specs.Play.{At, Tune}
 use Rattle.model.specs.Word.{word_of, InWord}
@@ -18,7 +19,7 @@ use Rattle.model.specs.Listing.{lines_of}
 use Rattle.model.specs.ListingText.{bytes, lines_text, listing_text}
 use Rattle.model.specs.declared.Event.{Event}
 use Rattle.model.specs.declared.PlayAnswer.{PlayAnswer}
-use Rattle.model.specs.declared.PlayAnswer.TheVariants as play
+use Rattle.model.specs.declared.Refusal.{Refusal}
 use Rattle.model.proofs.Outcomes.{then_fine, bind_fine}
 use Rattle.inverse.proofs.WordBack.{word_back}
 use Rattle.items.proofs.Standing.{body_stands}
@@ -52,13 +53,13 @@ steps_early low high (at ∷ messages) rest rises zero h = rising_low at.step hi
 steps_early low high (at ∷ messages) rest rises (suc i) h = steps_early at.step high messages rest rises.1 i (omega arith)
 
 -- A PLAY that is accepted
-module _ (buffer : List ℕ) (n row room : ℕ) (tune : Tune Event) (e : play_of buffer n row room ≡ fine tune) where
+module _ (buffer : List ℕ) (n row room : ℕ) (tune : Tune Event) (e : play_of buffer n row room ≡ Ok tune) where
   pub few_rows : length tune.messages ≤ room
   unfolding play_of
   few_rows =
       let a = bind_fine _ _ tune e in
       let b = then_fine _ _ tune a.2 in
-      let last : fine a.0.tune ≡ fine tune = b.1 in
+      let last : Ok a.0.tune ≡ Ok tune = b.1 in
       let same : a.0.tune ≡ tune = cc in
       subst (λ (t : Tune Event). length t.messages ≤ room) same
       (ltb-false room (length a.0.tune.messages) (not_refused (room <? length a.0.tune.messages) 15 _ _ b.0))
@@ -90,7 +91,7 @@ module _ (buffer : List ℕ) (n row room : ℕ) (tune : Tune Event) (e : play_of
 module _ (tune : Tune Event) (all : OfMessages InWord tune.messages) (base : ℕ) (steps words : List ℕ) where
   rows_listed : tune_text base (length tune.messages) (written_over steps (map (λ at. at.step) tune.messages))
       (written_over words (map (λ at. word_of at.event) tune.messages)) tune.end
-      ≡ listing_text (fine (tune_listed base tune))
+      ≡ listing_text (Ok (tune_listed base tune))
   unfolding tune_text rows_text listing_text tune_listed written_over bytes
   rows_listed =
       let head = bytes "step ms ch kind value gate\n" in
@@ -99,46 +100,48 @@ module _ (tune : Tune Event) (all : OfMessages InWord tune.messages) (base : ℕ
       (sym (pair_fields (bytes "end") tune.end (tune.end * base)))
 
 -- an answer says what was played
-answer_fine : (o : Checked (Tune Event)) (count end : ℕ) → play_answer o ≡ play.Rows count end
-    → (tune : Tune Event) × (o ≡ fine tune) × (count ≡ length tune.messages) × (end ≡ tune.end)
+answer_fine : (o : Checked (Tune Event)) (played : PlayAnswer) → play_answer o ≡ Ok played
+    → (tune : Tune Event) × (o ≡ Ok tune) × (played.count ≡ length tune.messages) × (played.end ≡ tune.end)
 unfolding play_answer
-answer_fine (fine tune) count end e = (tune, refl, cc, cc)
-answer_fine (refused number place) count end e = let z : ◌≡◌ {A = ℕ} 0 1 = cc in absurd (omega arith)
+answer_fine (Ok tune) played e =
+    let same : ◌≡◌ {A = PlayAnswer} (record { count = length tune.messages; end = tune.end }) played = cc in
+    (tune, refl, sym (ap (λ (p : PlayAnswer). p.count) same), sym (ap (λ (p : PlayAnswer). p.end) same))
+answer_fine (Err why) played e = let z : ◌≡◌ {A = ℕ} 0 1 = cc in absurd (omega arith)
 
-answer_refused : (o : Checked (Tune Event)) (number place : ℕ) → play_answer o ≡ play.Refused number place → o ≡ refused number place
+answer_refused : (o : Checked (Tune Event)) (why : Refusal) → play_answer o ≡ Err why → o ≡ Err why
 unfolding play_answer
-answer_refused (fine tune) number place e = let z : ◌≡◌ {A = ℕ} 0 1 = cc in absurd (omega arith)
-answer_refused (refused n p) number place e = cc
+answer_refused (Ok tune) why e = let z : ◌≡◌ {A = ℕ} 0 1 = cc in absurd (omega arith)
+answer_refused (Err told) why e = cc
 
 module _ (input : List ℕ) (row base : ℕ) (steps₀ words₀ : List ℕ) where
   abbrev outcome : Checked (Tune Event)
   outcome = play_of input (length input) row (min (length steps₀) (length words₀))
 
-  module _ (a : PlayAnswer) (is : a ≡ play_answer (play_of input (length input) row (min (length steps₀) (length words₀)))) where
-    module _ (number place : ℕ) (e : a ≡ play.Refused number place) where
-      listed_refused : listing_text (refused number place) ≡ listing_text (play_listed base outcome)
+  module _ (a : Checked PlayAnswer) (is : a ≡ play_answer (play_of input (length input) row (min (length steps₀) (length words₀)))) where
+    module _ (why : Refusal) (e : a ≡ Err why) where
+      listed_refused : listing_text (Err why) ≡ listing_text (play_listed base outcome)
       unfolding play_listed
-      listed_refused = ap (λ (o : Checked (Tune Event)). listing_text (play_listed base o)) (sym (answer_refused outcome number place (sym is ∙ e)))
+      listed_refused = ap (λ (o : Checked (Tune Event)). listing_text (play_listed base o)) (sym (answer_refused outcome why (sym is ∙ e)))
 
-      pub refused_next : (r : ℕ) → r ≡ length (listing_text (refused number place))
+      pub refused_next : (r : ℕ) → r ≡ length (listing_text (Err why))
           → r ≡ length (listing_text (play_listed base (play_of input (length input) row (min (length steps₀) (length words₀)))))
       refused_next r h = h ∙ ap length listed_refused
 
-      pub refused_written : (l m : List ℕ) → m ≡ sets l 0 (listing_text (refused number place))
+      pub refused_written : (l m : List ℕ) → m ≡ sets l 0 (listing_text (Err why))
           → m ≡ sets l 0 (listing_text (play_listed base (play_of input (length input) row (min (length steps₀) (length words₀)))))
       refused_written l m h = h ∙ ap (sets l 0) listed_refused
 
-    module _ (count end : ℕ) (e : a ≡ play.Rows count end) where
-      told : (tune : Tune Event) × (outcome ≡ fine tune) × (count ≡ length tune.messages) × (end ≡ tune.end)
-      told = answer_fine outcome count end (sym is ∙ e)
+    module _ (played : PlayAnswer) (e : a ≡ Ok played) where
+      told : (tune : Tune Event) × (outcome ≡ Ok tune) × (played.count ≡ length tune.messages) × (played.end ≡ tune.end)
+      told = answer_fine outcome played (sym is ∙ e)
 
-      few : count ≤ min (length steps₀) (length words₀)
+      few : played.count ≤ min (length steps₀) (length words₀)
       few = let t = told in omega (arith, t.2, few_rows input (length input) row _ t.0 t.1)
 
-      pub played_room : (most : ℕ) → length steps₀ ≤ 4096 → 500000 ≤ most → 73 + 118 * count ≤ most
+      pub played_room : (most : ℕ) → length steps₀ ≤ 4096 → 500000 ≤ most → 73 + 118 * played.count ≤ most
       played_room most h k = omega (arith, few)
 
-      pub played_short : (r : ℕ) → length steps₀ ≤ 4096 → r ≤ 73 + 118 * count → r ≤ 500000
+      pub played_short : (r : ℕ) → length steps₀ ≤ 4096 → r ≤ 73 + 118 * played.count → r ≤ 500000
       played_short r h k = omega (arith, few)
 
       module _ (steps words : List ℕ) (s : steps ≡ steps_table steps₀ (play_of input (length input) row (min (length steps₀) (length words₀))))
@@ -151,23 +154,23 @@ module _ (input : List ℕ) (row base : ℕ) (steps₀ words₀ : List ℕ) wher
         unfolding words_table memory_after
         words_are = w ∙ ap (words_table words₀) told.1
 
-        pub played_steps : count ≤ length steps
+        pub played_steps : played.count ≤ length steps
         unfolding written_over
         played_steps =
             let front = map (λ at. at.step) told.0.messages in
             omega (arith, told.2, ap length steps_are, length-append front (drop (length front) steps₀), length-map told.0.messages (λ at. at.step))
 
-        pub played_words : count ≤ length words
+        pub played_words : played.count ≤ length words
         unfolding written_over
         played_words =
             let front = map (λ at. word_of at.event) told.0.messages in
             omega (arith, told.2, ap length words_are, length-append front (drop (length front) words₀), length-map told.0.messages (λ at. word_of at.event))
 
         module _ (bytes : (k : ℕ) → input ! k < 256) where
-          pub played_end : end ≤ 368934881474191032
+          pub played_end : played.end ≤ 368934881474191032
           played_end = let t = told in omega (arith, t.3, early_end input (length input) row _ t.0 t.1 bytes)
 
-          pub played_early : Early count steps
+          pub played_early : Early played.count steps
           unfolding written_over
           played_early i h =
               let t = told in
@@ -176,7 +179,7 @@ module _ (input : List ℕ) (row base : ℕ) (steps₀ words₀ : List ℕ) wher
               let step = steps_early 0 t.0.end t.0.messages (drop (length (map (λ at. at.step) t.0.messages)) steps₀) rises i (omega (arith, t.2)) in
               omega (arith, ap (λ (l : List ℕ). l ! i) steps_are)
 
-          played_text : tune_text base count steps words end ≡ listing_text (play_listed base outcome)
+          played_text : tune_text base played.count steps words played.end ≡ listing_text (play_listed base outcome)
           unfolding play_listed
           played_text =
               let t = told in
@@ -185,11 +188,11 @@ module _ (input : List ℕ) (row base : ℕ) (steps₀ words₀ : List ℕ) wher
               ∙ rows_listed t.0 (in_words input (length input) row _ t.0 t.1 bytes) base steps₀ words₀
               ∙ ap (λ (o : Checked (Tune Event)). listing_text (play_listed base o)) (sym t.1)
 
-          pub played_next : (r : ℕ) → r ≡ length (tune_text base count steps words end)
+          pub played_next : (r : ℕ) → r ≡ length (tune_text base played.count steps words played.end)
               → r ≡ length (listing_text (play_listed base (play_of input (length input) row (min (length steps₀) (length words₀)))))
           played_next r h = h ∙ ap length played_text
 
-          pub played_written : (l m : List ℕ) → m ≡ sets l 0 (tune_text base count steps words end)
+          pub played_written : (l m : List ℕ) → m ≡ sets l 0 (tune_text base played.count steps words played.end)
               → m ≡ sets l 0 (listing_text (play_listed base (play_of input (length input) row (min (length steps₀) (length words₀)))))
           played_written l m h = h ∙ ap (sets l 0) played_text
 

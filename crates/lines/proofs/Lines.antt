@@ -1,12 +1,10 @@
--- Lines: what each event prints, the shifts after it, and a line in its parts.
+-- Lines: what each event prints, and a line in its parts.
 use Prim.Native.Nat.{ℕ, ◌+◌}
 use mathlib.Core.List.{List, ◌++◌, append_assoc}
 use mathlib.Core.Path.{◌≡◌, sym, ◌∙◌, ap, ap₂}
-use lib.ListN.{length, get_or, set}
+use lib.ListN.{length, get_or}
 use lib.Seq.{sets}
-use borrow.Author.Tests.{eq-eqb, ne_eqb}
-use Rattle.model.specs.Words.{when◌then◌else◌}
-use Rattle.model.specs.Listing.{Line, shifts_after, long_kind_of, long_value_of, line_of}
+use Rattle.model.specs.Listing.{Line, long_kind_of, long_value_of, line_of}
 use Rattle.model.specs.ListingText.{fields, line_text}
 use Rattle.model.specs.declared.Event.{Event}
 use Rattle.model.specs.declared.Event.TheVariants.{Nop, Note, Wave, Control, Exclusive}
@@ -41,35 +39,6 @@ module _ (shifts : List ℕ) (step ms : ℕ) (event : Event) (line : Line) where
   nop_line e h = h ∙ sym (ap (line_of shifts step ms) e)
 
 pub ruleset printed = (note_line_lem, wave_line, control_line, exclusive_line, nop_line)
-
--- THE SHIFTS after each event
-module _ (shifts : List ℕ) (event : Event) where
-  module _ (kind channel value : ℕ) (e : event ≡ Control kind channel value) where
-    pub shift_set : (later : List ℕ) → kind ≡ 5 → later ≡ set shifts channel value → later ≡ shifts_after shifts event
-    unfolding shifts_after when◌then◌else◌
-    shift_set later five h = h ∙ sym (ap (shifts_after shifts) e ∙ simp eq-eqb)
-
-    pub shift_kept : (kind ≡ 5 → ⊥) → shifts ≡ shifts_after shifts event
-    unfolding shifts_after when◌then◌else◌
-    shift_kept other = sym (ap (shifts_after shifts) e ∙ simp ne_eqb)
-
-  pub nop_kept : event ≡ Nop → shifts ≡ shifts_after shifts event
-  unfolding shifts_after
-  nop_kept e = sym (ap (shifts_after shifts) e)
-
-  pub note_kept : (channel key gate : ℕ) → event ≡ Note channel key gate → shifts ≡ shifts_after shifts event
-  unfolding shifts_after
-  note_kept channel key gate e = sym (ap (shifts_after shifts) e)
-
-  pub wave_kept : (channel number gate : ℕ) → event ≡ Wave channel number gate → shifts ≡ shifts_after shifts event
-  unfolding shifts_after
-  wave_kept channel number gate e = sym (ap (shifts_after shifts) e)
-
-  pub exclusive_kept : (place size : ℕ) → event ≡ Exclusive place size → shifts ≡ shifts_after shifts event
-  unfolding shifts_after
-  exclusive_kept place size e = sym (ap (shifts_after shifts) e)
-
-pub ruleset shifting = (shift_set, shift_kept, nop_kept, note_kept, wave_kept, exclusive_kept)
 
 -- A LINE IN PARTS
 module _ (line : Printed) where

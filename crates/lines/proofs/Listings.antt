@@ -1,16 +1,16 @@
 -- A LISTING from its parts: the first readable track that the walk found is the one that the definition names, and what is listed of it is what
 -- the definition lists.
 use Prim.Native.Nat.{ℕ, ◌+◌, ◌<◌, ◌≤◌}
-use mathlib.Core.Bool.{Bool, true}
+use mathlib.Core.Bool.{true}
 use mathlib.Core.List.{List, [], ◌∷◌}
-use mathlib.Core.Option.{none, some}
+use Rattle.std.specs.Prelude.{None, Some, Ok, Err, Option}
 use mathlib.Core.Path.{◌≡◌, refl, sym, ◌∙◌, ap, subst}
 use lib.ListN.{length}
 use lib.Seq.{sets, take-length}
 use native.Mathlib.Nat.{add-zero}
 use native.Mathlib.Omega.{arith}
 use borrow.Author.Tests.{lt-ltb, le-ltb, eq-eqb, ne_eqb}
-use Rattle.model.specs.Words.{◌<?◌, ◌≡?◌, Checked, Checked.fine, Checked.refused, ◌>>=◌}
+use Rattle.model.specs.Words.{◌<?◌, ◌≡?◌, Checked, ◌>>=◌, refused}
 use Rattle.model.specs.Item.{is_fine}
 use Rattle.model.specs.TimeBase.{milliseconds}
 use Rattle.model.specs.Play.{Tune}
@@ -21,10 +21,8 @@ use Rattle.model.specs.Listing.{first_readable, row_named, listed, listing_of}
 use Rattle.model.specs.ListingText.{listing_text, list_answer, list_memory}
 use Rattle.model.specs.declared.Event.{Event}
 use Rattle.model.specs.declared.ReadAnswer.{ReadAnswer}
-use Rattle.model.specs.declared.ReadAnswer.TheVariants as read
 use Rattle.model.specs.declared.FirstTrack.{FirstTrack}
-use Rattle.model.specs.declared.FirstTrack.TheVariants.{At, Nowhere}
-use Rattle.model.specs.declared.Listed.TheVariants.{Text, Full}
+use Rattle.model.specs.declared.Refusal.{Refusal}
 use Rattle.model.proofs.Outcomes.{then_fine, bind_fine}
 use Rattle.model.proofs.Tests.{if_true, if_false}
 use Rattle.reading.specs.Stages.{tops_of}
@@ -36,9 +34,9 @@ use Rattle.lines.proofs.Tops.{milliseconds_low}
 
 -- the first readable track, found and named
 data Firsts (k : ℕ) (tops : List Top) : Type 0 where
-  none_there : first_of k tops ≡ Nowhere → first_readable k tops ≡ none → Firsts k tops
-  one_there : (row : ℕ) (track : Track) → k ≤ row → first_of k tops ≡ At row (milliseconds track.base_d) → first_readable k tops ≡ some row
-      → track_from row k tops ≡ some track → Firsts k tops
+  none_there : first_of k tops ≡ None → first_readable k tops ≡ None → Firsts k tops
+  one_there : (row : ℕ) (track : Track) → k ≤ row → first_of k tops ≡ Some (record { row = row; milliseconds = milliseconds track.base_d }) → first_readable k tops ≡ Some row
+      → track_from row k tops ≡ Some track → Firsts k tops
 
 past_leaf : (k : ℕ) (top : Top) (tops : List Top) → parts_of top ≡ [] → first_of k (top ∷ tops) ≡ first_of (k + 1) tops
     → first_readable k (top ∷ tops) ≡ first_readable (k + 1) tops → Firsts (k + 1) tops → Firsts k (top ∷ tops)
@@ -57,12 +55,12 @@ firsts k [] = none_there refl refl
 firsts k (leaf chunk ∷ tops) = past_leaf k (leaf chunk) tops refl refl refl (firsts (k + 1) tops)
 firsts k (readable chunk track ∷ tops) = one_there k track (omega arith) refl refl (if_true (k ≡? k) _ _ (eq-eqb k k refl))
 
-play_listed_lem : (track : Track) (o : Checked (Tune Event)) → play_listed (milliseconds track.base_d) o ≡ (o >>= λ tune. fine (listed track tune))
+play_listed_lem : (track : Track) (o : Checked (Tune Event)) → play_listed (milliseconds track.base_d) o ≡ (o >>= λ tune. Ok (listed track tune))
 unfolding play_listed tune_listed listed ◌>>=◌
-play_listed_lem track (fine tune) = refl
-play_listed_lem track (refused number place) = refl
+play_listed_lem track (Ok tune) = refl
+play_listed_lem track (Err why) = refl
 
-module _ (input : List ℕ) (file : File) (e : read_of input (length input) 16384 ≡ fine file) where
+module _ (input : List ℕ) (file : File) (e : read_of input (length input) 16384 ≡ Ok file) where
   first_listed_lem : Firsts 1 file.tops → first_listed input (first_of 1 file.tops) ≡ listing_of input
   unfolding listing_of first_listed row_named named track_at ◌>>=◌
   first_listed_lem (none_there p q) = rw (p, e, q)
@@ -72,53 +70,53 @@ module _ (input : List ℕ) (file : File) (e : read_of input (length input) 1638
   file_listed = first_listed_lem (firsts 1 file.tops)
 
 -- A FILE that was read
-read_file : (input : List ℕ) (n room : ℕ) (file : File) → read_of input n room ≡ fine file → file_of input n ≡ fine file
+read_file : (input : List ℕ) (n room : ℕ) (file : File) → read_of input n room ≡ Ok file → file_of input n ≡ Ok file
 unfolding read_of
 read_file input n room file e =
     let a = bind_fine _ _ file e in
     let b = then_fine _ _ file a.2 in
-    let last : fine a.0 ≡ fine file = b.1 in
+    let last : Ok a.0 ≡ Ok file = b.1 in
     a.1 ∙ last
 
-answer_read : (o : Checked File) (count code : ℕ) (matches : Bool) → read_answer o ≡ read.Rows count code matches → (file : File) × (o ≡ fine file)
+answer_read : (o : Checked File) (read : ReadAnswer) → read_answer o ≡ Ok read → (file : File) × (o ≡ Ok file)
 unfolding read_answer
-answer_read (fine file) count code matches e = (file, refl)
-answer_read (refused number place) count code matches e = let z : ◌≡◌ {A = ℕ} 0 1 = cc in absurd (omega arith)
+answer_read (Ok file) read e = (file, refl)
+answer_read (Err why) read e = let z : ◌≡◌ {A = ℕ} 0 1 = cc in absurd (omega arith)
 
-answer_refused : (o : Checked File) (number place : ℕ) → read_answer o ≡ read.Refused number place → o ≡ refused number place
+answer_refused : (o : Checked File) (why : Refusal) → read_answer o ≡ Err why → o ≡ Err why
 unfolding read_answer
-answer_refused (fine file) number place e = let z : ◌≡◌ {A = ℕ} 0 1 = cc in absurd (omega arith)
-answer_refused (refused n p) number place e = cc
+answer_refused (Ok file) why e = let z : ◌≡◌ {A = ℕ} 0 1 = cc in absurd (omega arith)
+answer_refused (Err told) why e = cc
 
-module _ (input : List ℕ) (room : ℕ) (all : room ≡ 16384) (a : ReadAnswer) (is : a ≡ read_answer (read_of input (length input) room)) where
+module _ (input : List ℕ) (room : ℕ) (all : room ≡ 16384) (a : Checked ReadAnswer) (is : a ≡ read_answer (read_of input (length input) room)) where
   abbrev outcome : Checked File
   outcome = read_of input (length input) 16384
 
   answered : a ≡ read_answer outcome
   answered = is ∙ ap (λ (n : ℕ). read_answer (read_of input (length input) n)) all
 
-  module _ (number place : ℕ) (e : a ≡ read.Refused number place) where
-    unread : listing_text (refused number place) ≡ listing_text (listing_of input)
+  module _ (why : Refusal) (e : a ≡ Err why) where
+    unread : listing_text (Err why) ≡ listing_text (listing_of input)
     unfolding listing_of ◌>>=◌
-    unread = ap listing_text (sym (rw (answer_refused outcome number place (sym answered ∙ e))))
+    unread = ap listing_text (sym (rw (answer_refused outcome why (sym answered ∙ e))))
 
-    pub unread_next : (r : ℕ) → r ≡ length (listing_text (refused number place)) → r ≡ length (listing_text (listing_of input))
+    pub unread_next : (r : ℕ) → r ≡ length (listing_text (Err why)) → r ≡ length (listing_text (listing_of input))
     unread_next r h = h ∙ ap length unread
 
-    pub unread_written : (l m : List ℕ) → m ≡ sets l 0 (listing_text (refused number place)) → m ≡ sets l 0 (listing_text (listing_of input))
+    pub unread_written : (l m : List ℕ) → m ≡ sets l 0 (listing_text (Err why)) → m ≡ sets l 0 (listing_text (listing_of input))
     unread_written l m h = h ∙ ap (sets l 0) unread
 
-  module _ (count code : ℕ) (matches : Bool) (e : a ≡ read.Rows count code matches) where
-    file_read : (file : File) × (outcome ≡ fine file)
-    file_read = answer_read outcome count code matches (sym answered ∙ e)
+  module _ (read : ReadAnswer) (e : a ≡ Ok read) where
+    file_read : (file : File) × (outcome ≡ Ok file)
+    file_read = answer_read outcome read (sym answered ∙ e)
 
-    stated : file_of input (length input) ≡ fine file_read.0
+    stated : file_of input (length input) ≡ Ok file_read.0
     stated = read_file input (length input) 16384 file_read.0 file_read.1
 
     pub read_small : length input ≤ 65536
     read_small = stated_small input (length input) file_read.0 stated
 
-    contents : contents_of input ≡ fine file_read.0
+    contents : contents_of input ≡ Ok file_read.0
     contents = sym (ap contents_of (take-length input)) ∙ (stated_bytes input (length input) file_read.0 stated).1
 
     pub read_fine : is_fine (contents_of input) ≡ true
@@ -143,17 +141,19 @@ pub ruleset unread_files = (unread_next, unread_written)
 pub ruleset read_files = (read_small, read_fine, read_next, read_written)
 
 -- THE FIRST TRACK of a file
-base_low : (k row ms : ℕ) (tops : List Top) → first_of k tops ≡ At row ms → ms ≤ 50
+base_low : (k : ℕ) (first : FirstTrack) (tops : List Top) → first_of k tops ≡ Some first → first.milliseconds ≤ 50
 unfolding first_of
-base_low k row ms [] e = let z : ◌≡◌ {A = ℕ} 0 1 = cc in absurd (omega arith)
-base_low k row ms (leaf chunk ∷ tops) e = base_low (k + 1) row ms tops e
-base_low k row ms (readable chunk track ∷ tops) e = let same : milliseconds track.base_d ≡ ms = cc in subst (λ (n : ℕ). n ≤ 50) same (milliseconds_low track.base_d)
+base_low k first [] e = let z : ◌≡◌ {A = ℕ} 0 1 = cc in absurd (omega arith)
+base_low k first (leaf chunk ∷ tops) e = base_low (k + 1) first tops e
+base_low k first (readable chunk track ∷ tops) e =
+    let same : ◌≡◌ {A = FirstTrack} (record { row = k; milliseconds = milliseconds track.base_d }) first = cc in
+    subst (λ (found : FirstTrack). found.milliseconds ≤ 50) same (milliseconds_low track.base_d)
 
-module _ (input : List ℕ) (tops : List Top) (f : FirstTrack) (is : f ≡ first_of 1 tops) where
-  module _ (e : f ≡ Nowhere) where
+module _ (input : List ℕ) (tops : List Top) (f : Option FirstTrack) (is : f ≡ first_of 1 tops) where
+  module _ (e : f ≡ None) where
     no_track : listing_text (refused 16 0) ≡ listing_text (first_listed input (first_of 1 tops))
     unfolding first_listed
-    no_track = ap (λ (first : FirstTrack). listing_text (first_listed input first)) (sym e ∙ is)
+    no_track = ap (λ (first : Option FirstTrack). listing_text (first_listed input first)) (sym e ∙ is)
 
     pub nowhere_next : (r : ℕ) → r ≡ length (listing_text (refused 16 0)) → r ≡ length (listing_text (first_listed input (first_of 1 tops)))
     nowhere_next r h = h ∙ ap length no_track
@@ -161,19 +161,19 @@ module _ (input : List ℕ) (tops : List Top) (f : FirstTrack) (is : f ≡ first
     pub nowhere_written : (l m : List ℕ) → m ≡ sets l 0 (listing_text (refused 16 0)) → m ≡ sets l 0 (listing_text (first_listed input (first_of 1 tops)))
     nowhere_written l m h = h ∙ ap (sets l 0) no_track
 
-  module _ (row base : ℕ) (e : f ≡ At row base) where
-    pub track_base : base ≤ 50
-    track_base = base_low 1 row base tops (sym is ∙ e)
+  module _ (first : FirstTrack) (e : f ≡ Some first) where
+    pub track_base : first.milliseconds ≤ 50
+    track_base = base_low 1 first tops (sym is ∙ e)
 
-    a_track : listing_text (play_listed base (play_of input (length input) row 4096)) ≡ listing_text (first_listed input (first_of 1 tops))
+    a_track : listing_text (play_listed first.milliseconds (play_of input (length input) first.row 4096)) ≡ listing_text (first_listed input (first_of 1 tops))
     unfolding first_listed
-    a_track = ap (λ (first : FirstTrack). listing_text (first_listed input first)) (sym e ∙ is)
+    a_track = ap (λ (found : Option FirstTrack). listing_text (first_listed input found)) (sym e ∙ is)
 
-    pub track_next : (r : ℕ) → r ≡ length (listing_text (play_listed base (play_of input (length input) row 4096)))
+    pub track_next : (r : ℕ) → r ≡ length (listing_text (play_listed first.milliseconds (play_of input (length input) first.row 4096)))
         → r ≡ length (listing_text (first_listed input (first_of 1 tops)))
     track_next r h = h ∙ ap length a_track
 
-    pub track_written : (l m : List ℕ) → m ≡ sets l 0 (listing_text (play_listed base (play_of input (length input) row 4096)))
+    pub track_written : (l m : List ℕ) → m ≡ sets l 0 (listing_text (play_listed first.milliseconds (play_of input (length input) first.row 4096)))
         → m ≡ sets l 0 (listing_text (first_listed input (first_of 1 tops)))
     track_written l m h = h ∙ ap (sets l 0) a_track
 
@@ -181,7 +181,7 @@ pub ruleset first_tracks = (nowhere_next, nowhere_written, track_base, track_nex
 
 -- THE ROOM
 module _ (input l : List ℕ) where
-  pub full_answer : length l < 500000 → Full ≡ list_answer input (length l)
+  pub full_answer : length l < 500000 → None ≡ list_answer input (length l)
   unfolding list_answer
   full_answer h = sym (if_true (length l <? 500000) _ _ (lt-ltb (length l) 500000 h))
 
@@ -190,9 +190,9 @@ module _ (input l : List ℕ) where
   full_memory h = sym (if_true (length l <? 500000) _ _ (lt-ltb (length l) 500000 h))
 
   module _ (room : 500000 ≤ length l) (r : ℕ) (is : r ≡ length (listing_text (listing_of input))) where
-    pub text_answer : Text r ≡ list_answer input (length l)
+    pub text_answer : Some r ≡ list_answer input (length l)
     unfolding list_answer
-    text_answer = ap Text is ∙ sym (if_false (length l <? 500000) _ _ (le-ltb (length l) 500000 room))
+    text_answer = ap (λ (n : ℕ). Some n) is ∙ sym (if_false (length l <? 500000) _ _ (le-ltb (length l) 500000 room))
 
     pub text_memory : (m : List ℕ) → r ≤ 500000 → m ≡ sets l 0 (listing_text (listing_of input)) → m ≡ list_memory input l
     unfolding list_memory

@@ -5,20 +5,15 @@ use mathlib.Core.Path.{◌≡◌, sym, ◌∙◌, ap}
 use mir.Val.{Fits}
 use mir.Syntax.{w64}
 use lib.ListN.{length, set, length-append, length-set}
-use lib.Seq.{sets, take-length}
+use lib.Seq.{sets}
 use lib.IntN.{pos, ◌-ℤ◌}
 use native.Mathlib.Omega.{arith}
-use Rattle.model.specs.Bytes.{part}
 use Rattle.model.specs.ListingText.{decimal, signed}
 use Rattle.model.proofs.Stores.{sets_append}
 use Rattle.pitch.proofs.Counts.{difference_up, difference_down}
 use Rattle.writing.proofs.Stores.{kept_set}
 use Rattle.lines.specs.Fields.{closed}
 use Rattle.lines.proofs.Decimals.{one_digit, more_digits, twenty_digits}
-
--- a text is copied whole
-pub whole_part : (m l text : List ℕ) (at : ℕ) → m ≡ sets l at (part text 0 (length text)) → m ≡ sets l at text
-whole_part m l text at e = e ∙ ap (sets l at) (take-length text)
 
 -- A DECIMAL, digit by digit
 module _ (l : List ℕ) (at n : ℕ) (room : at + length (decimal n) ≤ length l) where
@@ -132,10 +127,3 @@ module _ (one two : List ℕ) (at middle : ℕ) (is : middle ≡ at + length one
       q ∙ ap (λ (x : List ℕ). sets x middle two) p ∙ ap (λ (n : ℕ). sets (sets l at one) n two) is ∙ sets_append l at one two
 
 pub ruleset joins = (joined_next, joined_written)
-
--- nothing to write
-pub nothing_next : (text : List ℕ) (at : ℕ) → [] ≡ text → at ≡ at + length text
-nothing_next text at e = omega (arith, ap length e)
-
-pub nothing_written : (l text : List ℕ) (at : ℕ) → [] ≡ text → l ≡ sets l at text
-nothing_written l text at e = ap (sets l at) e

@@ -12,7 +12,8 @@ use Rattle.model.specs.Bytes.{◌!◌}
 use Rattle.model.specs.Writing.{event_in}
 use Rattle.model.specs.Listing.{Line, shifts_after, line_of, lines_of}
 use Rattle.model.specs.ListingText.{bytes, decimal, fields, line_text, lines_text, listing_text}
-use Rattle.model.specs.Words.{Checked.refused}
+use Rattle.std.specs.Prelude.{Err}
+use Rattle.model.specs.declared.Refusal.{Refusal}
 use Rattle.model.specs.declared.Event.{Event}
 use Rattle.lines.specs.declared.line.Printed.{Printed}
 use Rattle.lines.specs.Fields.{closed, said, messages_in, rows_text, pair_text, tune_text, Early}
@@ -85,9 +86,6 @@ module _ (l : List ℕ) (at : ℕ) (steps words : List ℕ) (count base : ℕ) w
       pub rows_early : Early count steps → steps ! i ≤ 368934881474191032
       rows_early early = early i h
 
-      pub rows_near : count - (i + 1) < count - i
-      rows_near = omega arith
-
       module _ (few : count ≤ length steps) (many : count ≤ length words) where
         abbrev line : Line
         line = line_of shifts (steps ! i) (steps ! i * base) (event_in (words ! i))
@@ -126,7 +124,7 @@ module _ (l : List ℕ) (at : ℕ) (steps words : List ℕ) (count base : ℕ) w
                     ∙ ap (sets out place) (sym ahead) ∙ r.whole);
               }
 
-pub ruleset rowing = (rows_start, rows_room, rows_kept, rows_step, rows_early, rows_near, rows_next)
+pub ruleset rowing = (rows_start, rows_room, rows_kept, rows_step, rows_early, rows_next, rows_done, rows_ended, rows_written)
 
 -- A PAIR on its line
 module _ (word : List ℕ) (first second at middle last : ℕ) (p : middle ≡ at + length word) (q : last ≡ middle + length (closed (decimal first) 0x20)) where
@@ -153,20 +151,20 @@ unfolding fields pair_text closed
 pair_fields word first second = sym (simp append_assoc)
 
 -- A REFUSAL
-refusal_text : (number place : ℕ) → pair_text (bytes "refused ") number place ≡ listing_text (refused number place)
+refusal_text : (why : Refusal) → pair_text (bytes "refused ") why.number why.place ≡ listing_text (Err why)
 unfolding listing_text bytes
-refusal_text number place = sym (pair_fields (bytes "refused") number place)
+refusal_text why = sym (pair_fields (bytes "refused") why.number why.place)
 
-module _ (number place : ℕ) where
-  pub refusal_next : (r : ℕ) → r ≡ 0 + length (pair_text (0x72 ∷ 0x65 ∷ 0x66 ∷ 0x75 ∷ 0x73 ∷ 0x65 ∷ 0x64 ∷ 0x20 ∷ []) number place)
-      → r ≡ length (listing_text (refused number place))
+module _ (why : Refusal) where
+  pub refusal_next : (r : ℕ) → r ≡ 0 + length (pair_text (0x72 ∷ 0x65 ∷ 0x66 ∷ 0x75 ∷ 0x73 ∷ 0x65 ∷ 0x64 ∷ 0x20 ∷ []) why.number why.place)
+      → r ≡ length (listing_text (Err why))
   unfolding bytes
-  refusal_next r e = omega (arith, e, ap length (refusal_text number place))
+  refusal_next r e = omega (arith, e, ap length (refusal_text why))
 
-  pub refusal_written : (l m : List ℕ) → m ≡ sets l 0 (pair_text (0x72 ∷ 0x65 ∷ 0x66 ∷ 0x75 ∷ 0x73 ∷ 0x65 ∷ 0x64 ∷ 0x20 ∷ []) number place)
-      → m ≡ sets l 0 (listing_text (refused number place))
+  pub refusal_written : (l m : List ℕ) → m ≡ sets l 0 (pair_text (0x72 ∷ 0x65 ∷ 0x66 ∷ 0x75 ∷ 0x73 ∷ 0x65 ∷ 0x64 ∷ 0x20 ∷ []) why.number why.place)
+      → m ≡ sets l 0 (listing_text (Err why))
   unfolding bytes
-  refusal_written l m e = e ∙ ap (sets l 0) (refusal_text number place)
+  refusal_written l m e = e ∙ ap (sets l 0) (refusal_text why)
 
 pub ruleset refusals = (refusal_next, refusal_written)
 

@@ -1,7 +1,6 @@
 -- What the functions of this crate speak of beside the definitions of the model: a line in parts, and the messages that rows say.
-use Rattle.std.specs.Prelude.{ℕ, zero, suc, ◌+◌, ◌-◌, ◌*◌, ◌/◌, ◌%◌, ◌<◌, ◌≤◌, Bool, List, [], ◌∷◌, ◌++◌, pos, ◌-ℤ◌}
-use Rattle.std.proofs.Math.Option.{Option, none, some}
-use Rattle.model.specs.Words.{when◌then◌else◌, ◌≤?◌, Checked, Checked.fine, Checked.refused}
+use Rattle.std.specs.Prelude.{ℕ, zero, suc, ◌+◌, ◌-◌, ◌*◌, ◌/◌, ◌%◌, ◌<◌, ◌≤◌, List, [], ◌∷◌, ◌++◌, pos, ◌-ℤ◌, None, Some, Ok, Err}
+use Rattle.model.specs.Words.{when◌then◌else◌, ◌≤?◌, Checked}
 use Rattle.model.specs.Pitch.{semitones}
 use Rattle.model.specs.Bytes.{◌!◌}
 use Rattle.model.specs.Listing.{Line, Listing, lines_of}
@@ -16,15 +15,12 @@ unfoldable pub closed : List ℕ → ℕ → List ℕ
 closed field byte = field ++ byte ∷ []
 
 -- the line that printed numbers say
-unfoldable pub channel_said : Bool → ℕ → Option ℕ
-channel_said voiced channel = when voiced then some channel else none
-
 unfoldable pub said : Printed → Line
 said printed =
     record {
       step = printed.step;
       ms = printed.ms;
-      channel = channel_said printed.voiced printed.channel;
+      channel = printed.channel;
       kind = printed.kind;
       value = pos printed.up -ℤ pos printed.down;
       gate = printed.gate;
@@ -46,7 +42,7 @@ note_line shift step ms channel key gate =
     record {
       step = step;
       ms = ms;
-      channel = some channel;
+      channel = Some channel;
       kind = 1;
       value = semitones (key / 16) (key % 16) shift;
       gate = gate;
@@ -54,18 +50,17 @@ note_line shift step ms channel key gate =
 
 unfoldable pub voiced_line : ℕ → ℕ → ℕ → ℕ → ℕ → ℕ → Line
 voiced_line step ms channel kind value gate =
-    record { step = step; ms = ms; channel = some channel; kind = kind; value = pos value; gate = gate }
+    record { step = step; ms = ms; channel = Some channel; kind = kind; value = pos value; gate = gate }
 
 unfoldable pub unvoiced_line : ℕ → ℕ → ℕ → ℕ → Line
-unvoiced_line step ms kind value = record { step = step; ms = ms; channel = none; kind = kind; value = pos value; gate = 0 }
+unvoiced_line step ms kind value = record { step = step; ms = ms; channel = None; kind = kind; value = pos value; gate = 0 }
 
 -- a line in three parts: its times, its channel and kind, its value and gate
 unfoldable pub times_text : ℕ → ℕ → List ℕ
 times_text step ms = closed (decimal step) space ++ closed (decimal ms) space
 
 unfoldable pub source_text : Printed → List ℕ
-source_text printed =
-    closed (channel_name (channel_said printed.voiced printed.channel)) space ++ closed (kind_name printed.kind) space
+source_text printed = closed (channel_name printed.channel) space ++ closed (kind_name printed.kind) space
 
 unfoldable pub value_text : Printed → List ℕ
 value_text printed =
@@ -102,5 +97,5 @@ tune_listed base tune =
     record { lines = lines_of base (0 ∷ 0 ∷ 0 ∷ 0 ∷ []) tune.messages; end = tune.end; end_ms = tune.end * base }
 
 unfoldable pub play_listed : ℕ → Checked (Tune Event) → Checked Listing
-play_listed base (fine tune) = fine (tune_listed base tune)
-play_listed base (refused number place) = refused number place
+play_listed base (Ok tune) = Ok (tune_listed base tune)
+play_listed base (Err why) = Err why

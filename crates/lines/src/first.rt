@@ -7,9 +7,10 @@ ghost use Rattle.reading.specs.Stages.{tops_of};
 ghost use Rattle.lines.specs.Tops.{first_of};
 
 use super::head::read_top;
-use model::{FirstTrack, ReadTop};
+use model::{FirstTrack, TopChunk};
 
-pub fn first_track(s: &[u8]) -> FirstTrack
+#[tactic(auto, using(crate::proofs::Firsts::nearing))]
+pub fn first_track(s: &[u8]) -> Option<FirstTrack>
     requires s_len_bound { length s.now ≤ 65536 }
     requires s_value { is_fine (contents_of s.now) ≡ true }
     ensures { result ≡ first_of 1 (tops_of (contents_of s.now)) }
@@ -18,18 +19,15 @@ pub fn first_track(s: &[u8]) -> FirstTrack
     let mut row: usize = 1;
     let mut at: usize = 8;
     while at < end {
-        match read_top(s, at) {
-            ReadTop::Track { milliseconds } => {
-                return FirstTrack::At { row, milliseconds };
+        match read_top(s, at)? {
+            TopChunk::Track { milliseconds } => {
+                return Some(FirstTrack { row, milliseconds });
             }
-            ReadTop::Leaf { next } => {
+            TopChunk::Leaf { next } => {
                 row += 1;
                 at = next;
             }
-            ReadTop::Cut => {
-                return FirstTrack::Nowhere;
-            }
         }
     }
-    FirstTrack::Nowhere
+    None
 }

@@ -4,7 +4,7 @@ ghost use Rattle.std.specs.Prelude.{◌≡◌};
 ghost use Rattle.lines.specs.Tops.{top_met};
 
 use super::top::top_at;
-use model::ReadTop;
+use model::TopChunk;
 
 #[derive(Clone, Copy)]
 pub struct Head<'a> {
@@ -18,13 +18,13 @@ fn open<'a>(body: &'a [u8], at: usize) -> Head<'a>
     Head { body, at }
 }
 
-fn next<'a>(head: Head<'a>) -> ReadTop
+fn next<'a>(head: Head<'a>) -> Option<TopChunk>
     ensures { result ≡ top_met head.entry.body.now head.entry.at }
 {
     top_at(head.body, head.at)
 }
 
-pub fn read_top(body: &[u8], at: usize) -> ReadTop
+pub fn read_top(body: &[u8], at: usize) -> Option<TopChunk>
     ensures { result ≡ top_met body.now at }
 {
     next(open(body, at))

@@ -4,14 +4,18 @@ ghost use Rattle.std.proofs.lemmas.List.Edits.{sets};
 ghost use Rattle.model.specs.ListingText.{decimal, signed};
 ghost use Rattle.lines.specs.Fields.{closed};
 
+#[tactic(auto, using(model::proofs::Stores::part_stored))]
 pub fn write_text(out: &mut [u8], at: usize, text: &[u8]) -> usize
     requires { at + length text.now ≤ length out.old }
     ensures value { result ≡ at + length text.now }
     ensures out_after { out.new ≡ sets out.old at text.now }
 {
-    writing::copy_part(text, 0, text.len(), out, at)
+    let end = at + text.len();
+    out[at..end].copy_from_slice(text);
+    end
 }
 
+#[tactic(auto, using(crate::proofs::Numbers::digits))]
 fn write_decimal(out: &mut [u8], at: usize, number: u64) -> usize
     requires { at + length (decimal number) ≤ length out.old }
     ensures value { result ≡ at + length (decimal number) }
@@ -27,9 +31,11 @@ fn write_decimal(out: &mut [u8], at: usize, number: u64) -> usize
 }
 
 // A number and the byte that closes its field.
+#[tactic(auto, using(crate::proofs::Numbers::closes))]
 pub fn write_number(out: &mut [u8], at: usize, number: u64, close: u8) -> usize
     requires { at + 21 ≤ length out.old }
-    ensures value { (result ≡ at + length (closed (decimal number) close)) × (result ≤ at + 21) }
+    ensures value { result ≡ at + length (closed (decimal number) close) }
+    ensures within { result ≤ at + 21 }
     ensures out_after { out.new ≡ sets out.old at (closed (decimal number) close) }
 {
     let end = write_decimal(out, at, number);
@@ -38,9 +44,11 @@ pub fn write_number(out: &mut [u8], at: usize, number: u64, close: u8) -> usize
 }
 
 // The difference of two numbers, with a sign where it is below 0, and the byte that closes its field.
+#[tactic(auto, using(crate::proofs::Numbers::signs))]
 pub fn write_difference(out: &mut [u8], at: usize, up: u64, down: u64, close: u8) -> usize
     requires { at + 22 ≤ length out.old }
-    ensures value { (result ≡ at + length (closed (signed (pos up -ℤ pos down)) close)) × (result ≤ at + 22) }
+    ensures value { result ≡ at + length (closed (signed (pos up -ℤ pos down)) close) }
+    ensures within { result ≤ at + 22 }
     ensures out_after { out.new ≡ sets out.old at (closed (signed (pos up -ℤ pos down)) close) }
 {
     if up < down {

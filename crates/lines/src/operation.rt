@@ -13,7 +13,7 @@ ghost use Rattle.lines.specs.Tops.{first_of, first_listed};
 
 use super::first::first_track;
 use super::rows::{write_listing, write_refusal};
-use model::{FirstTrack, Listed, PlayAnswer, ReadAnswer};
+use model::{FirstTrack, PlayAnswer, Refusal};
 
 // The room that is asked for: 4,096 lines of at most 118 bytes each, the head line and the end.
 const ROOM: usize = 500000;
@@ -30,26 +30,21 @@ fn list_played(
     requires room_asked_in_bounds { room_asked ≤ length out.old }
     requires milliseconds_bound { milliseconds ≤ 50 }
     requires steps_len_bound { length steps.old ≤ 4096 }
-    ensures value { (result ≡ length (listing_text (play_listed milliseconds (play_of input.now (length input.now) row (min (length steps.old) (length words.old)))))) × (result ≤ room_asked) }
+    ensures value { result ≡ length (listing_text (play_listed milliseconds (play_of input.now (length input.now) row (min (length steps.old) (length words.old))))) }
+    ensures within { result ≤ room_asked }
     ensures out_after { out.new ≡ sets out.old 0 (listing_text (play_listed milliseconds (play_of input.now (length input.now) row (min (length steps.old) (length words.old))))) }
 {
     match playing::play(input, input.len(), row, steps, words) {
-        PlayAnswer::Refused { number, place } => write_refusal(out, number, place),
-        PlayAnswer::Rows { count, end } => write_listing(
-            out,
-            steps,
-            words,
-            count,
-            end,
-            milliseconds,
-        ),
+        Err(why) => write_refusal(out, why),
+        Ok(PlayAnswer { count, end }) => write_listing(out, steps, words, count, end, milliseconds),
     }
 }
 
 fn list_track(input: &[u8], row: usize, milliseconds: u32, out: &mut [u8]) -> usize
     requires room_asked_in_bounds { room_asked ≤ length out.old }
     requires milliseconds_bound { milliseconds ≤ 50 }
-    ensures value { (result ≡ length (listing_text (play_listed milliseconds (play_of input.now (length input.now) row 4096)))) × (result ≤ room_asked) }
+    ensures value { result ≡ length (listing_text (play_listed milliseconds (play_of input.now (length input.now) row 4096))) }
+    ensures within { result ≤ room_asked }
     ensures out_after { out.new ≡ sets out.old 0 (listing_text (play_listed milliseconds (play_of input.now (length input.now) row 4096))) }
 {
     let mut steps = [0u64; 4096];
@@ -58,53 +53,59 @@ fn list_track(input: &[u8], row: usize, milliseconds: u32, out: &mut [u8]) -> us
 }
 
 // The listing of a file that was accepted.
+#[tactic(auto, using(crate::proofs::Listings::first_tracks))]
 fn list_accepted(input: &[u8], out: &mut [u8]) -> usize
     requires room_asked_in_bounds { room_asked ≤ length out.old }
     requires input_len_bound { length input.now ≤ 65536 }
     requires input_value { is_fine (contents_of input.now) ≡ true }
-    ensures value { (result ≡ length (listing_text (first_listed input.now (first_of 1 (tops_of (contents_of input.now)))))) × (result ≤ room_asked) }
+    ensures value { result ≡ length (listing_text (first_listed input.now (first_of 1 (tops_of (contents_of input.now))))) }
+    ensures within { result ≤ room_asked }
     ensures out_after { out.new ≡ sets out.old 0 (listing_text (first_listed input.now (first_of 1 (tops_of (contents_of input.now))))) }
 {
     match first_track(input) {
-        FirstTrack::Nowhere => write_refusal(out, 16, 0),
-        FirstTrack::At { row, milliseconds } => list_track(input, row, milliseconds, out),
+        None => write_refusal(
+            out,
+            Refusal {
+                number: 16,
+                place: 0,
+            },
+        ),
+        Some(FirstTrack { row, milliseconds }) => list_track(input, row, milliseconds, out),
     }
 }
 
 // The listing of an input, read into a table of 4,096 rows.
+#[tactic(auto, using(crate::proofs::Listings::read_files, crate::proofs::Listings::unread_files))]
 fn list_read(input: &[u8], rows: &mut [u32], out: &mut [u8]) -> usize
     requires room_asked_in_bounds { room_asked ≤ length out.old }
     requires rows_len { length rows.old ≡ 16384 }
-    ensures value { (result ≡ length (listing_text (listing_of input.now))) × (result ≤ room_asked) }
+    ensures value { result ≡ length (listing_text (listing_of input.now)) }
+    ensures within { result ≤ room_asked }
     ensures out_after { out.new ≡ sets out.old 0 (listing_text (listing_of input.now)) }
 {
     match reading::read(input, input.len(), rows) {
-        ReadAnswer::Refused { number, place } => write_refusal(out, number, place),
-        ReadAnswer::Rows {
-            count: _,
-            code: _,
-            matches: _,
-        } => list_accepted(input, out),
+        Err(why) => write_refusal(out, why),
+        Ok(_) => list_accepted(input, out),
     }
 }
 
 fn list_input(input: &[u8], out: &mut [u8]) -> usize
     requires { room_asked ≤ length out.old }
-    ensures value { (result ≡ length (listing_text (listing_of input.now))) × (result ≤ room_asked) }
+    ensures value { result ≡ length (listing_text (listing_of input.now)) }
+    ensures within { result ≤ room_asked }
     ensures out_after { out.new ≡ sets out.old 0 (listing_text (listing_of input.now)) }
 {
     let mut rows = [0u32; 16384];
     list_read(input, &mut rows, out)
 }
 
-pub fn list(input: &[u8], out: &mut [u8]) -> Listed
+#[tactic(auto, using(crate::proofs::Listings::rooms))]
+pub fn list(input: &[u8], out: &mut [u8]) -> Option<usize>
     ensures value { result ≡ list_answer input.now (length out.old) }
     ensures out_after { out.new ≡ list_memory input.now out.old }
 {
     if out.len() < ROOM {
-        return Listed::Full;
+        return None;
     }
-    Listed::Text {
-        length: list_input(input, out),
-    }
+    Some(list_input(input, out))
 }

@@ -6,13 +6,12 @@ ghost use Rattle.model.specs.Track.{place_of_d, voice_of};
 ghost use Rattle.reading.specs.Stages.{placed};
 ghost use Rattle.lines.specs.Tops.{voiced_top, top_met};
 
-use model::{FoundVoice, ReadChunk, ReadTop, TimeBase, Voice};
+use model::{ReadChunk, TimeBase, TopChunk, Voice};
 
 fn milliseconds_of(code: u8) -> u32
     ensures { result ≡ milliseconds code }
 {
-    let base = TimeBase { code };
-    base.milliseconds()
+    TimeBase { code }.milliseconds()
 }
 
 // The milliseconds of a track's time base D.
@@ -27,42 +26,39 @@ fn base_of(voice: Voice, s: &[u8], body: usize) -> u32
 }
 
 // The chunk of a size whose header is at a place.
-fn open_top(s: &[u8], at: usize, size: usize, next: usize) -> ReadTop
+#[tactic(auto, using(model::proofs::Tests::tests), unfolding(crate::specs::Tops::voiced_top))]
+fn open_top(s: &[u8], at: usize, size: usize, next: usize) -> Option<TopChunk>
     requires { at + 8 + size ≤ length s.now }
     ensures { result ≡ voiced_top s.now at size next (voice_of s.now (placed s.now at size)) }
 {
     match reading::voice_of(s, at, size) {
-        FoundVoice::Refused {
-            number: _,
-            place: _,
-        } => ReadTop::Cut,
-        FoundVoice::Closed => ReadTop::Leaf { next },
-        FoundVoice::Opened(voice) => {
+        Err(_) => None,
+        Ok(None) => Some(TopChunk::Leaf { next }),
+        Ok(Some(voice)) => {
             if size < 6 {
-                return ReadTop::Cut;
+                return None;
             }
-            ReadTop::Track {
+            Some(TopChunk::Track {
                 milliseconds: base_of(voice, s, at + 8),
-            }
+            })
         }
     }
 }
 
-pub fn top_at(s: &[u8], at: usize) -> ReadTop
+#[tactic(auto, using(model::proofs::Tests::tests, crate::proofs::Tops::chunk_there), unfolding(crate::specs::Tops::top_met, crate::specs::Tops::chunk_top))]
+pub fn top_at(s: &[u8], at: usize) -> Option<TopChunk>
     ensures { result ≡ top_met s.now at }
 {
     if 65536 < s.len() {
-        return ReadTop::Cut;
+        return None;
     }
     if s.len() < 10 {
-        return ReadTop::Cut;
+        return None;
     }
     let end = s.len() - 2;
     if end <= at {
-        return ReadTop::Cut;
+        return None;
     }
-    match chunks::read_chunk(s, end, at) {
-        ReadChunk::Cut => ReadTop::Cut,
-        ReadChunk::Is { id: _, size, next } => open_top(s, at, size, next),
-    }
+    let ReadChunk { size, next, .. } = chunks::read_chunk(s, end, at)?;
+    open_top(s, at, size, next)
 }

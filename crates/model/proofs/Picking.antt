@@ -2,7 +2,7 @@
 use Prim.Native.Nat.{ℕ, zero, suc, ◌+◌, ◌<◌}
 use mathlib.Core.Bool.{Bool, true, false, false≢true}
 use mathlib.Core.List.{List, [], ◌∷◌, ◌++◌, map}
-use mathlib.Core.Option.{none, some}
+use Rattle.std.specs.Prelude.{None, Some}
 use mathlib.Core.Path.{◌≡◌, refl, sym, ◌∙◌, ap}
 use lib.ListN.{length, take}
 use native.Mathlib.Omega.{arith}
@@ -33,7 +33,7 @@ module _ {A : Type 0} (test : A → Bool) where
   through_none [] h = refl
   through_none (a ∷ l) h = let k = any_none a l h in rw k.0 (ap (λ (rest : List A). a ∷ rest) (through_none l k.1))
 
-  pub first_none : (l : List A) → any test l ≡ false → first test l ≡ none
+  pub first_none : (l : List A) → any test l ≡ false → first test l ≡ None
   unfolding first when◌then◌else◌
   first_none [] h = refl
   first_none (a ∷ l) h = let k = any_none a l h in rw k.0 (first_none l k.1)
@@ -53,10 +53,10 @@ module _ {A : Type 0} (test : A → Bool) where
   unfolding through when◌then◌else◌
   through_on a rest h = rw h
 
-  pub any_first : (l : List A) (a : A) → first test l ≡ some a → any test l ≡ true
+  pub any_first : (l : List A) (a : A) → first test l ≡ Some a → any test l ≡ true
   unfolding first any ◌or◌ when◌then◌else◌
   any_first [] a e = let z : ◌≡◌ {A = ℕ} 0 1 = cc in absurd (omega arith)
-  any_first (b ∷ l) a e = by_test (test b) (λ t. simp t) (λ t. let rest : first test l ≡ some a = simp t at e in simp t (any_first l a rest))
+  any_first (b ∷ l) a e = by_test (test b) (λ t. simp t) (λ t. let rest : first test l ≡ Some a = simp t at e in simp t (any_first l a rest))
 
 -- what is told of each is picked the same
 pub through_map : {A B : Type 0} (test : B → Bool) (tell : A → B) (l : List A) → through test (map tell l) ≡ map tell (through (λ a. test (tell a)) l)

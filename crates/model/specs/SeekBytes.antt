@@ -1,7 +1,7 @@
 -- Paper, "Points, phrases and the order list", the other way round: entries as bytes. Ticket 3: entries as they are given to be written, four numbers
 -- each.
-use Rattle.std.specs.Prelude.{ℕ, zero, suc, ◌+◌, ◌/◌, List, [], ◌∷◌, ◌++◌, Bool, true, false, length, drop}
-use Rattle.model.specs.Words.{when◌then◌else◌, ◌≤?◌, ◌≡?◌, Placed, placed_from, Checked, Checked.fine, Checked.refused, ◌>>=◌, walk_of, in_turn}
+use Rattle.std.specs.Prelude.{ℕ, zero, suc, ◌+◌, ◌/◌, List, [], ◌∷◌, ◌++◌, Bool, true, false, length, drop, Ok}
+use Rattle.model.specs.Words.{when◌then◌else◌, ◌≤?◌, ◌≡?◌, Placed, placed_from, Checked, ◌>>=◌, walk_of, in_turn, refused}
 use Rattle.model.specs.Bytes.{◌!◌}
 use Rattle.model.specs.Seek.{Entry, Entry.start, Entry.stop, Entry.phrase, Entry.order, is_letter, tag, letters_in_front, in_order}
 use Rattle.model.specs.Track.{point_width}
@@ -38,18 +38,18 @@ largest_point false = 0xFFFFFFFF
 
 unfoldable pub entry_given : Bool → List ℕ → ℕ → ℕ → ℕ → ℕ → Checked Entry
 entry_given phrases letters kind letter from to =
-    when kind ≡? 0 then (when from ≤? largest_point phrases then fine (start from) else refused 12 0) else
-    when kind ≡? 1 then (when from ≤? largest_point phrases then fine (stop from) else refused 12 0) else
-    when kind ≡? 2 then (when is_letter letter then fine (phrase letter from to) else refused 12 0) else
-    when kind ≡? 3 then (when letters_in_front letters ≡? length letters then fine (order letters) else refused 12 0) else
+    when kind ≡? 0 then (when from ≤? largest_point phrases then Ok (start from) else refused 12 0) else
+    when kind ≡? 1 then (when from ≤? largest_point phrases then Ok (stop from) else refused 12 0) else
+    when kind ≡? 2 then (when is_letter letter then Ok (phrase letter from to) else refused 12 0) else
+    when kind ≡? 3 then (when letters_in_front letters ≡? length letters then Ok (order letters) else refused 12 0) else
     refused 12 0
 
 unfoldable pub entries_from : Bool → List ℕ → ℕ → List ℕ → Checked (List Entry)
-entries_from phrases letters zero numbers = fine []
+entries_from phrases letters zero numbers = Ok []
 entries_from phrases letters (suc count) numbers = do
   entry ← entry_given phrases letters (numbers ! 0) (numbers ! 1) (numbers ! 2) (numbers ! 3)
   entries ← entries_from phrases letters count (drop 4 numbers)
-  fine (entry ∷ entries)
+  Ok (entry ∷ entries)
 
 -- Order and repetition as in the reader: 12.
 unfoldable pub entries_given : Bool → List ℕ → List ℕ → Checked (List (Placed Entry))

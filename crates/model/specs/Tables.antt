@@ -2,8 +2,8 @@
 -- numbers have four counts, the track's entries (four numbers each) and its items (two numbers each), and the bytes have its number, its six fixed bytes, the
 -- letters of its order list and the source of its exclusives. The counts are those of entries, items, letters and source bytes; where one runs past its
 -- table's end, it means what is left. A track is there where its four counts and seven bytes are.
-use Rattle.std.specs.Prelude.{ℕ, zero, suc, ◌+◌, ◌*◌, List, [], ◌∷◌, map, length, take, drop}
-use Rattle.model.specs.Words.{when◌then◌else◌, ◌and◌, ◌or◌, ◌<?◌, ◌≡?◌, any, Checked, Checked.fine, Checked.refused, passed, ◌>>=◌, ◌>>◌, told_at}
+use Rattle.std.specs.Prelude.{ℕ, zero, suc, ◌+◌, ◌*◌, List, [], ◌∷◌, map, length, take, drop, Ok}
+use Rattle.model.specs.Words.{when◌then◌else◌, ◌and◌, ◌or◌, ◌<?◌, ◌≡?◌, any, Checked, passed, ◌>>=◌, ◌>>◌, told_at, refused}
 use Rattle.model.specs.Bytes.{◌!◌, part}
 use Rattle.model.specs.Track.{fixed_fits, points_of}
 use Rattle.model.specs.Plain.{bytes_of}
@@ -69,14 +69,14 @@ track_given given = do
   let phrases = has_phrases given.fixed
   entries ← entries_given phrases given.letters given.entries
   points_of phrases (items_placed items) (length (bytes_of handy_phone items)) entries
-  fine (record { number = given.number; fixed = given.fixed; entries = map (λ entry. entry.what) entries; items = items })
+  Ok (record { number = given.number; fixed = given.fixed; entries = map (λ entry. entry.what) entries; items = items })
 
 unfoldable pub tracks_from : ℕ → List Given → Checked (List ScoreTrack)
-tracks_from index [] = fine []
+tracks_from index [] = Ok []
 tracks_from index (given ∷ rest) = do
   track ← told_at index (track_given given)
   tracks ← tracks_from (index + 1) rest
-  fine (track ∷ tracks)
+  Ok (track ∷ tracks)
 
 -- 6 over all tracks, 7 at 0, then track by track.
 unfoldable pub arrangement_of : List ℕ → List ℕ → Checked Arrangement
@@ -84,4 +84,4 @@ arrangement_of numbers bytes = do
   once_from [] 0 (given_in numbers bytes)
   when length (given_in numbers bytes) ≡? 0 then refused 7 0 else passed
   tracks ← tracks_from 0 (given_in numbers bytes)
-  fine (record { contents = take 5 bytes; tracks = tracks })
+  Ok (record { contents = take 5 bytes; tracks = tracks })

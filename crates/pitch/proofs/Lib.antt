@@ -1,4 +1,3 @@
 -- The laws that the functions' proofs cite, each file resting on those above it.
 pub mod Signed
 pub mod Counts
-pub mod ChannelSteps

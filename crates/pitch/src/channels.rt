@@ -23,31 +23,31 @@ pub fn channels_at_first() -> [Channel; 4]
 pub fn channel_at(channels: [Channel; 4], number: u8) -> Channel
     ensures { result ≡ channel_at channels number }
 {
-    let at = number as usize;
-    if 4 <= at {
-        return at_first();
+    match channels.get(number as usize) {
+        Some(channel) => *channel,
+        None => at_first(),
     }
-    channels[at]
 }
 
 // A channel after a control of its own.
 fn channel_after(channel: Channel, kind: u8, value: u8) -> Channel
     ensures { result ≡ channel_after channel kind value }
 {
-    let mut next = channel;
-    if kind == 3 {
-        next.bank_in_force = channel.bank;
-        return next;
+    match kind {
+        3 => Channel {
+            bank_in_force: channel.bank,
+            ..channel
+        },
+        4 => Channel {
+            bank: value,
+            ..channel
+        },
+        5 => Channel {
+            shift: value,
+            ..channel
+        },
+        _ => channel,
     }
-    if kind == 4 {
-        next.bank = value;
-        return next;
-    }
-    if kind == 5 {
-        next.shift = value;
-        return next;
-    }
-    next
 }
 
 fn with_channel(channels: [Channel; 4], number: u8, channel: Channel) -> [Channel; 4]
@@ -75,17 +75,6 @@ pub fn channels_after(channels: [Channel; 4], event: Event) -> [Channel; 4]
             let stepped = channel_after(channel_at(channels, channel), kind, value);
             with_channel(channels, channel, stepped)
         }
-        Event::Nop => channels,
-        Event::Note {
-            channel: _,
-            key: _,
-            gate: _,
-        } => channels,
-        Event::Wave {
-            channel: _,
-            number: _,
-            gate: _,
-        } => channels,
-        Event::Exclusive { place: _, size: _ } => channels,
+        Event::Nop | Event::Note { .. } | Event::Wave { .. } | Event::Exclusive { .. } => channels,
     }
 }

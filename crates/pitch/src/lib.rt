@@ -10,7 +10,7 @@ ghost use Rattle.model.specs.Pitch.{semitones, pitch_of};
 
 pub use channels::{channel_at, channels_after, channels_at_first};
 use items::{is_note, is_shift};
-use model::Pitch;
+use model::{Pitch, Refusal, refused};
 
 pub fn minus(up: u8, down: u8) -> i32
     ensures { result ≡ pos up -ℤ pos down }
@@ -32,22 +32,16 @@ fn semitones(octave: u8, note: u8, shift: u8) -> i32
 }
 
 // Of an event's first byte and a shift value byte.
-pub fn pitch_of(byte: u8, shift: u8) -> Pitch
+pub fn pitch_of(byte: u8, shift: u8) -> Result<Pitch, Refusal>
     ensures { result ≡ pitch_of byte shift }
 {
     if !is_note(byte % 16) {
-        return Pitch::Refused {
-            number: 19,
-            place: 0,
-        };
+        return refused(19, 0);
     }
     if !is_shift(shift) {
-        return Pitch::Refused {
-            number: 19,
-            place: 0,
-        };
+        return refused(19, 0);
     }
-    Pitch::Semitones {
+    Ok(Pitch {
         above: semitones(byte / 16 % 4, byte % 16, shift),
-    }
+    })
 }

@@ -5,12 +5,12 @@ use Prim.Native.Nat.{ℕ, ◌<◌, ◌≤◌}
 use mathlib.Core.Bool.{Bool, true, false}
 use mathlib.Core.List.{List}
 use mathlib.Core.Logic.{◌⊎◌, inl, inr}
-use mathlib.Core.Option.{Option, none, some}
+use Rattle.std.specs.Prelude.{Option, None, Some, Ok, Err}
 use mathlib.Core.Path.{◌≡◌, refl, sym, ◌∙◌, ap₂}
 use lib.ListN.{length}
 use native.Mathlib.Omega.{arith}
 use borrow.Author.Tests.{le-ltb, lt-ltb, ltb-true, ltb-false}
-use Rattle.model.specs.Words.{when◌then◌else◌, ◌or◌, ◌<?◌, Checked, Checked.fine, Checked.refused, ◌>>=◌, ◌>>◌, passed, Placed}
+use Rattle.model.specs.Words.{when◌then◌else◌, ◌or◌, ◌<?◌, Checked, ◌>>=◌, ◌>>◌, passed, Placed, refused}
 use Rattle.model.specs.Item.{Item}
 use Rattle.model.specs.Seek.{Entry, order_list}
 use Rattle.model.specs.Play.{Section}
@@ -21,6 +21,7 @@ use Rattle.model.specs.Answer.{Performance, named, ordered, performed, plain_of,
 use Rattle.model.specs.declared.Event.{Event}
 use Rattle.model.proofs.Outcomes.{bind_fine}
 use Rattle.model.proofs.Tests.{by_test, first_true, second_true}
+use Rattle.model.proofs.Walks.{same_number, same_place}
 use Rattle.reading.proofs.FileRefusals.{Read, file_refused}
 use Rattle.reading.proofs.Performed.{named_fine}
 
@@ -30,43 +31,44 @@ TooLong room performance = (65536 < length (plain_of performance)) ⊎ (room < l
 
 pub data Refusal (buffer : List ℕ) (n row room number place : ℕ) : Type 0 where
   unread : file_of buffer n ≡ refused number place → Read number → Refusal buffer n row room number place
-  unnamed : (file : File) → file_of buffer n ≡ fine file → track_at file row ≡ none → number ≡ 16 → place ≡ 0 → Refusal buffer n row room number place
-  unordered : (file : File) (track : Track) → file_of buffer n ≡ fine file → track_at file row ≡ some track → track.phrases ≡ true
-      → order_list track.entries ≡ none → number ≡ 17 → place ≡ track.header → Refusal buffer n row room number place
-  overlong : (performance : Performance) → performed buffer n row ≡ fine performance → TooLong room performance → number ≡ 18
+  unnamed : (file : File) → file_of buffer n ≡ Ok file → track_at file row ≡ None → number ≡ 16 → place ≡ 0 → Refusal buffer n row room number place
+  unordered : (file : File) (track : Track) → file_of buffer n ≡ Ok file → track_at file row ≡ Some track → track.phrases ≡ true
+      → order_list track.entries ≡ None → number ≡ 17 → place ≡ track.header → Refusal buffer n row room number place
+  overlong : (performance : Performance) → performed buffer n row ≡ Ok performance → TooLong room performance → number ≡ 18
       → place ≡ performance.track.header → Refusal buffer n row room number place
 
 -- one check after the other, by its outcome
 
 bind_was : {A B : Type 0} (c : Checked A) (rest : A → Checked B) (number place : ℕ) → (c >>= rest) ≡ refused number place
-    → (c ≡ refused number place) ⊎ ((a : A) × (c ≡ fine a) × (rest a ≡ refused number place))
+    → (c ≡ refused number place) ⊎ ((a : A) × (c ≡ Ok a) × (rest a ≡ refused number place))
 unfolding ◌>>=◌
-bind_was (fine a) rest number place e = inr (a, refl, e)
-bind_was (refused m p) rest number place e = let a : m ≡ number = cc in let b : p ≡ place = cc in inl (rw (a, b) refl)
+bind_was (Ok a) rest number place e = inr (a, refl, e)
+bind_was {A} (Err why) rest number place e =
+    inl (ap₂ (λ (n p : ℕ). refused {A = A} n p) (same_number why.number why.place number place e) (same_place why.number why.place number place e))
 
-test_was : {A : Type 0} (b : Bool) (m p : ℕ) (a : A) (number place : ℕ) → ((when b then refused m p else passed) >> fine a) ≡ refused number place
+test_was : {A : Type 0} (b : Bool) (m p : ℕ) (a : A) (number place : ℕ) → ((when b then refused m p else passed) >> Ok a) ≡ refused number place
     → (b ≡ true) × (number ≡ m) × (place ≡ p)
 unfolding when◌then◌else◌ ◌>>◌
-test_was true m p a number place e = (refl, cc, cc)
+test_was true m p a number place e = (refl, sym (same_number m p number place e), sym (same_place m p number place e))
 test_was false m p a number place e = let z : ◌≡◌ {A = ℕ} 0 1 = cc in absurd (omega arith)
 
-test_passed : (a b : Bool) (m p : ℕ) (bytes other : List ℕ) → ((when a or b then refused m p else passed) >> fine bytes) ≡ fine other
+test_passed : (a b : Bool) (m p : ℕ) (bytes other : List ℕ) → ((when a or b then refused m p else passed) >> Ok bytes) ≡ Ok other
     → (a ≡ false) × (b ≡ false) × (bytes ≡ other)
 unfolding when◌then◌else◌ ◌or◌ ◌>>◌
 test_passed true b m p bytes other e = let z : ◌≡◌ {A = ℕ} 0 1 = cc in absurd (omega arith)
 test_passed false true m p bytes other e = let z : ◌≡◌ {A = ℕ} 0 1 = cc in absurd (omega arith)
 test_passed false false m p bytes other e = (refl, refl, cc)
 
-named_was : (o : Option Track) (number place : ℕ) → named o ≡ refused number place → (o ≡ none) × (number ≡ 16) × (place ≡ 0)
+named_was : (o : Option Track) (number place : ℕ) → named o ≡ refused number place → (o ≡ None) × (number ≡ 16) × (place ≡ 0)
 unfolding named
-named_was none number place e = (refl, cc, cc)
-named_was (some track) number place e = let z : ◌≡◌ {A = ℕ} 0 1 = cc in absurd (omega arith)
+named_was None number place e = (refl, sym (same_number 16 0 number place e), sym (same_place 16 0 number place e))
+named_was (Some track) number place e = let z : ◌≡◌ {A = ℕ} 0 1 = cc in absurd (omega arith)
 
 ordered_was : (track : Track) (o : Option (List Section)) (number place : ℕ) → ordered track o ≡ refused number place
-    → (o ≡ none) × (number ≡ 17) × (place ≡ track.header)
+    → (o ≡ None) × (number ≡ 17) × (place ≡ track.header)
 unfolding ordered
-ordered_was track none number place e = (refl, cc, cc)
-ordered_was track (some sections) number place e = let z : ◌≡◌ {A = ℕ} 0 1 = cc in absurd (omega arith)
+ordered_was track None number place e = (refl, sym (same_number 17 track.header number place e), sym (same_place 17 track.header number place e))
+ordered_was track (Some sections) number place e = let z : ◌≡◌ {A = ℕ} 0 1 = cc in absurd (omega arith)
 
 either : (a b : Bool) → (a or b) ≡ true → (a ≡ true) ⊎ (b ≡ true)
 unfolding ◌or◌
@@ -75,35 +77,35 @@ either false b e = inr e
 
 -- only a phrase track without an order list has no play order
 
-letters_none : (items : List (Placed (Item Event))) (entries : List (Placed Entry)) (letters : Option (List ℕ)) → phrase_order items entries letters ≡ none
-    → letters ≡ none
+letters_none : (items : List (Placed (Item Event))) (entries : List (Placed Entry)) (letters : Option (List ℕ)) → phrase_order items entries letters ≡ None
+    → letters ≡ None
 unfolding phrase_order
-letters_none items entries none e = refl
-letters_none items entries (some letters) e = let z : ◌≡◌ {A = ℕ} 0 1 = cc in absurd (omega arith)
+letters_none items entries None e = refl
+letters_none items entries (Some letters) e = let z : ◌≡◌ {A = ℕ} 0 1 = cc in absurd (omega arith)
 
-order_none : (phrases : Bool) (items : List (Placed (Item Event))) (entries : List (Placed Entry)) → order_of phrases items entries ≡ none
-    → (phrases ≡ true) × (order_list entries ≡ none)
+order_none : (phrases : Bool) (items : List (Placed (Item Event))) (entries : List (Placed Entry)) → order_of phrases items entries ≡ None
+    → (phrases ≡ true) × (order_list entries ≡ None)
 unfolding order_of
 order_none true items entries e = (refl, letters_none items entries (order_list entries) e)
 order_none false items entries e = let z : ◌≡◌ {A = ℕ} 0 1 = cc in absurd (omega arith)
 
-no_play_order : (track : Track) → play_order track ≡ none → (track.phrases ≡ true) × (order_list track.entries ≡ none)
+no_play_order : (track : Track) → play_order track ≡ None → (track.phrases ≡ true) × (order_list track.entries ≡ None)
 unfolding play_order
 no_play_order track e = order_none track.phrases track.items track.entries e
 
-no_order : (track : Track) → track.phrases ≡ true → order_list track.entries ≡ none → play_order track ≡ none
+no_order : (track : Track) → track.phrases ≡ true → order_list track.entries ≡ None → play_order track ≡ None
 unfolding play_order order_of phrase_order
 no_order track phrases none-listed = rw (phrases, none-listed) refl
 
 module _ (buffer : List ℕ) (n row room : ℕ) where
   -- FLATTENED to the plain form, where that fits
-  pub flattened : (performance : Performance) → performed buffer n row ≡ fine performance → length (plain_of performance) ≤ 65536
-      → length (plain_of performance) ≤ room → flatten_of buffer n row room ≡ fine (plain_of performance)
+  pub flattened : (performance : Performance) → performed buffer n row ≡ Ok performance → length (plain_of performance) ≤ 65536
+      → length (plain_of performance) ≤ room → flatten_of buffer n row room ≡ Ok (plain_of performance)
   unfolding flatten_of ◌>>=◌ ◌>>◌ ◌or◌ when◌then◌else◌
   flattened performance e short fits = rw e (simp le-ltb)
 
-  pub flattened_only_so : (bytes : List ℕ) → flatten_of buffer n row room ≡ fine bytes
-      → (performance : Performance) × (performed buffer n row ≡ fine performance) × (bytes ≡ plain_of performance)
+  pub flattened_only_so : (bytes : List ℕ) → flatten_of buffer n row room ≡ Ok bytes
+      → (performance : Performance) × (performed buffer n row ≡ Ok performance) × (bytes ≡ plain_of performance)
       × (length bytes ≤ 65536) × (length bytes ≤ room)
   unfolding flatten_of
   flattened_only_so bytes e =
@@ -132,7 +134,7 @@ module _ (buffer : List ℕ) (n row room : ℕ) where
         | inr long ↦ inr (ltb-true room (length (plain_of performance)) long)
       ]
 
-  refused_long : (performance : Performance) → performed buffer n row ≡ fine performance → TooLong room performance
+  refused_long : (performance : Performance) → performed buffer n row ≡ Ok performance → TooLong room performance
       → flatten_of buffer n row room ≡ refused 18 performance.track.header
   unfolding flatten_of ◌>>=◌ ◌>>◌ when◌then◌else◌
   refused_long performance e long = rw (e, too_long performance long) refl

@@ -3,12 +3,12 @@
 use Prim.Native.Nat.{ℕ, ◌+◌, ◌<◌, ◌≤◌}
 use mathlib.Core.List.{List, [], ◌∷◌}
 use mathlib.Core.Bool.{Bool, true, false, false≢true}
-use mathlib.Core.Option.{Option, none, some}
+use Rattle.std.specs.Prelude.{Option, None, Some, Ok}
 use mathlib.Core.Path.{◌≡◌, refl, sym, ◌∙◌, ap, ap₂}
 use lib.ListN.{length, take, drop, length-take}
 use lib.Seq.{get_or-drop}
 use native.Mathlib.Omega.{arith}
-use Rattle.model.specs.Words.{◌≡?◌, ◌otherwise◌, first_said, Placed, Checked, Checked.fine, each}
+use Rattle.model.specs.Words.{◌≡?◌, ◌otherwise◌, first_said, Placed, Checked, each}
 use Rattle.model.specs.Bytes.{◌!◌, part}
 use Rattle.model.specs.Item.{Item, is_fine, found, body_of}
 use Rattle.model.specs.Seek.{Entry, seek_of, order_list, points_said}
@@ -30,7 +30,7 @@ part_bytes_lem : (s : List ℕ) (place size : ℕ) → ((k : ℕ) → s ! k < 25
 part_bytes_lem s place size bytes k = take_bytes (drop place s) size (λ j. omega (arith, get_or-drop place s j 0, bytes (place + j))) k
 
 -- an order list has no more letters than the file has bytes
-listed_few : (s letters : List ℕ) (entries : List (Placed Entry)) → seek_of 1 s ≡ fine entries → order_list entries ≡ some letters → length letters ≤ length s
+listed_few : (s letters : List ℕ) (entries : List (Placed Entry)) → seek_of 1 s ≡ Ok entries → order_list entries ≡ Some letters → length letters ≤ length s
 unfolding is_fine found ◌otherwise◌
 listed_few s letters entries e listed =
     let all = (ordered true s (ap is_fine e) (points_said (all_entries true s)) refl).fits in
@@ -39,30 +39,30 @@ listed_few s letters entries e listed =
     omega (arith, ap length same)
 
 letters_few : (phrases : Bool) (s : List ℕ) (items : List (Placed (Item Event))) (size : ℕ) (chunk : Option Chunk) (entries : List (Placed Entry))
-    → entries_of phrases items size s chunk ≡ fine entries → (letters : List ℕ) → phrases ≡ true → order_list entries ≡ some letters → length letters ≤ length s
+    → entries_of phrases items size s chunk ≡ Ok entries → (letters : List ℕ) → phrases ≡ true → order_list entries ≡ Some letters → length letters ≤ length s
 unfolding entries_of order_list first_said seek_in
-letters_few phrases s items size none entries e letters is listed =
+letters_few phrases s items size None entries e letters is listed =
     let empty : [] ≡ entries = cc in
-    let q : order_list [] ≡ some letters = ap order_list empty ∙ listed in
+    let q : order_list [] ≡ Some letters = ap order_list empty ∙ listed in
     let z : ◌≡◌ {A = ℕ} 0 1 = cc in
     absurd (omega arith)
-letters_few false s items size (some chunk) entries e letters is listed = absurd (false≢true is)
-letters_few true s items size (some chunk) entries e letters is listed =
+letters_few false s items size (Some chunk) entries e letters is listed = absurd (false≢true is)
+letters_few true s items size (Some chunk) entries e letters is listed =
     let a = bind_fine _ _ entries (counted_fine (chunk.place + 8) _ entries e) in
     let b = then_fine _ _ entries a.2 in
     let last = b.1 in
     let same : a.0 ≡ entries = cc in
-    let few = listed_few (part s (chunk.place + 8) chunk.size) letters entries (a.1 ∙ ap fine same) listed in
+    let few = listed_few (part s (chunk.place + 8) chunk.size) letters entries (a.1 ∙ ap Ok same) listed in
     omega (arith, part_short s (chunk.place + 8) chunk.size)
 
 record Body (s : List ℕ) (track : Track) : Type 0 where
   place : ℕ
   size : ℕ
   is : track.body ≡ part s place size
-  reads : body_of track.voice track.body ≡ fine track.items
-  few : (letters : List ℕ) → track.phrases ≡ true → order_list track.entries ≡ some letters → length letters ≤ length s
+  reads : body_of track.voice track.body ≡ Ok track.items
+  few : (letters : List ℕ) → track.phrases ≡ true → order_list track.entries ≡ Some letters → length letters ≤ length s
 
-track_body : (s : List ℕ) (voice : Voice) (chunk : Chunk) (track : Track) → track_of s voice chunk ≡ fine track → Body s track
+track_body : (s : List ℕ) (voice : Voice) (chunk : Chunk) (track : Track) → track_of s voice chunk ≡ Ok track → Body s track
 track_body s voice chunk track e =
     let made = track_made s voice chunk track e in
     record {
@@ -74,15 +74,15 @@ track_body s voice chunk track e =
     }
 
 -- the track that a row names
-track_opened : (s : List ℕ) (chunk : Chunk) (top : Top) (track : Track) → OpenedAs s chunk top → track_in top ≡ some track → Body s track
+track_opened : (s : List ℕ) (chunk : Chunk) (top : Top) (track : Track) → OpenedAs s chunk top → track_in top ≡ Some track → Body s track
 unfolding track_in
 track_opened s chunk (leaf one) track o e = let z : ◌≡◌ {A = ℕ} 0 1 = cc in absurd (omega arith)
 track_opened s chunk (readable one made) track o e =
     let same : made ≡ track = cc in
-    track_body s o.1 chunk track (o.3 ∙ ap fine same)
+    track_body s o.1 chunk track (o.3 ∙ ap Ok same)
 
-row_opened : (s : List ℕ) (row k : ℕ) (chunks : List Chunk) (tops : List Top) (track : Track) → each (top_of s) chunks ≡ fine tops
-    → track_from row k tops ≡ some track → Body s track
+row_opened : (s : List ℕ) (row k : ℕ) (chunks : List Chunk) (tops : List Top) (track : Track) → each (top_of s) chunks ≡ Ok tops
+    → track_from row k tops ≡ Some track → Body s track
 unfolding track_from
 row_opened s row k [] tops track e h =
     let empty = ap (track_from row k) (sym (each_none (top_of s) tops e)) ∙ h in
@@ -90,7 +90,7 @@ row_opened s row k [] tops track e h =
     absurd (omega arith)
 row_opened s row k (chunk ∷ chunks) tops track e h =
     let o = each_fine (top_of s) chunk chunks tops e in
-    let asked : track_from row k (o.0 ∷ o.1) ≡ some track = ap (track_from row k) (sym o.4) ∙ h in
+    let asked : track_from row k (o.0 ∷ o.1) ≡ Some track = ap (track_from row k) (sym o.4) ∙ h in
     by_test (row ≡? k)
     (λ hit. track_opened s chunk o.0 track (opened_as s chunk o.0 o.2) (sym (if_true (row ≡? k) _ _ hit) ∙ asked))
     (λ miss. row_opened s row (k + 1 + length (parts_of o.0)) chunks o.1 track o.3 (sym (if_false (row ≡? k) _ _ miss) ∙ asked))
@@ -98,11 +98,11 @@ row_opened s row k (chunk ∷ chunks) tops track e h =
 pub record Readable (track : Track) : Type 0 where
   pub bytes : (k : ℕ) → track.body ! k < 256
   pub small : length track.body ≤ 65536
-  pub reads : body_of track.voice track.body ≡ fine track.items
-  pub few : (letters : List ℕ) → track.phrases ≡ true → order_list track.entries ≡ some letters → length letters ≤ 65536
+  pub reads : body_of track.voice track.body ≡ Ok track.items
+  pub few : (letters : List ℕ) → track.phrases ≡ true → order_list track.entries ≡ Some letters → length letters ≤ 65536
 
-pub named_reads : (buffer : List ℕ) (n row : ℕ) (file : File) (track : Track) → ((k : ℕ) → buffer ! k < 256) → file_of buffer n ≡ fine file
-    → track_at file row ≡ some track → Readable track
+pub named_reads : (buffer : List ℕ) (n row : ℕ) (file : File) (track : Track) → ((k : ℕ) → buffer ! k < 256) → file_of buffer n ≡ Ok file
+    → track_at file row ≡ Some track → Readable track
 unfolding track_at
 named_reads buffer n row file track bytes e h =
     let made = contents_made (take n buffer) file (stated_bytes buffer n file e).1 in

@@ -2,7 +2,7 @@
 use Prim.Native.Nat.{ℕ}
 use mathlib.Core.Bool.{true}
 use mathlib.Core.List.{List, [], ◌∷◌, map}
-use mathlib.Core.Option.{some}
+use Rattle.std.specs.Prelude.{Some}
 use mathlib.Core.Path.{◌≡◌, ◌∙◌}
 use Rattle.model.specs.Words.{◌≤?◌}
 use Rattle.model.specs.Item.{Item, Item.timed, Item.end_mark}
@@ -58,7 +58,7 @@ module _ (voice : Voice) (body : List ℕ) where
   told_writable (at ∷ messages) s = (s.1, told_writable messages s.2)
 
 -- THE TUNE of a readable track in its play order can be written.
-pub tune_writable : (track : Track) (sections : List Section) → Readable track → play_order track ≡ some sections
+pub tune_writable : (track : Track) (sections : List Section) → Readable track → play_order track ≡ Some sections
     → WritableTune track.voice (retold (content_of track.body) (tune_in track sections))
 unfolding tune_in retold
 tune_writable track sections readable e =

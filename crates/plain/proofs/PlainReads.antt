@@ -5,7 +5,8 @@ use Prim.Native.Nat.{ℕ}
 use mathlib.Core.List.{List, [], ◌∷◌, ◌++◌, map-map}
 use mathlib.Core.Path.{◌≡◌, refl, ◌∙◌, ap, ap₂}
 use native.Mathlib.Omega.{arith}
-use Rattle.model.specs.Words.{Checked.fine}
+use Rattle.model.specs.Words.{}
+use Rattle.std.specs.Prelude.{Ok}
 use Rattle.model.specs.Item.{body_of}
 use Rattle.model.specs.Play.{At, Tune, retold}
 use Rattle.model.specs.Plain.{bytes_of, plain_items, plain_form}
@@ -27,7 +28,7 @@ pub record WritableTune (voice : Voice) (tune : Tune Content) : Type 0 where
 -- its plain form, read
 pub record Plain (voice : Voice) (tune : Tune Content) : Type 0 where
   pub items : Items
-  pub reads : body_of voice (plain_form handy_phone tune) ≡ fine items
+  pub reads : body_of voice (plain_form handy_phone tune) ≡ Ok items
   pub written : contents_in (plain_form handy_phone tune) items ≡ plain_items handy_phone tune
   pub ended : Ended (contents_in (plain_form handy_phone tune) items)
   pub closed : plain_form handy_phone tune ≡ bytes_of handy_phone ended.front ++ (0 ∷ 0 ∷ 0 ∷ 0 ∷ [])

@@ -5,9 +5,9 @@
 use Prim.Native.Nat.{ℕ, ◌<◌}
 use mathlib.Core.Bool.{false}
 use mathlib.Core.List.{List, [], ◌∷◌, ◌++◌}
-use mathlib.Core.Option.{none, some}
+use Rattle.std.specs.Prelude.{None, Some, Ok}
 use mathlib.Core.Path.{◌≡◌, refl, sym, ◌∙◌, ap₂, subst}
-use Rattle.model.specs.Words.{◌otherwise◌, first_said, Placed, Checked.fine}
+use Rattle.model.specs.Words.{◌otherwise◌, first_said, Placed}
 use Rattle.model.specs.Bytes.{◌!◌}
 use Rattle.model.specs.Item.{Item, body_of}
 use Rattle.model.specs.Seek.{start_point, stop_point}
@@ -25,7 +25,7 @@ use Rattle.plain.proofs.PlainReads.{WritableTune, plain_reads}
 use Rattle.plain.proofs.NamedTracks.{named_reads}
 use Rattle.plain.proofs.Performances.{tune_writable}
 
-performance_writable : (buffer : List ℕ) (n row : ℕ) (performance : Performance) → ((k : ℕ) → buffer ! k < 256) → performed buffer n row ≡ fine performance
+performance_writable : (buffer : List ℕ) (n row : ℕ) (performance : Performance) → ((k : ℕ) → buffer ! k < 256) → performed buffer n row ≡ Ok performance
     → WritableTune performance.track.voice (retold (content_of performance.track.body) performance.tune)
 performance_writable buffer n row performance bytes e =
     let so = performed_so buffer n row performance e in
@@ -37,14 +37,14 @@ performance_writable buffer n row performance bytes e =
 -- gives it.
 pub record Flattened (performance : Performance) : Type 0 where
   pub items : List (Placed (Item Event))
-  pub reads : body_of performance.track.voice (plain_of performance) ≡ fine items
+  pub reads : body_of performance.track.voice (plain_of performance) ≡ Ok items
   pub written : contents_in (plain_of performance) items ≡ plain_items handy_phone (retold (content_of performance.track.body) performance.tune)
   pub ended : Ended (contents_in (plain_of performance) items)
   pub closed : plain_of performance ≡ bytes_of handy_phone ended.front ++ (0 ∷ 0 ∷ 0 ∷ 0 ∷ [])
   pub same : retold (content_of (plain_of performance)) (streamed items) ≡ retold (content_of performance.track.body) performance.tune
   pub again : plain_form handy_phone (retold (content_of (plain_of performance)) (streamed items)) ≡ plain_of performance
 
-pub plays_the_same : (buffer : List ℕ) (n row : ℕ) (performance : Performance) → ((k : ℕ) → buffer ! k < 256) → performed buffer n row ≡ fine performance
+pub plays_the_same : (buffer : List ℕ) (n row : ℕ) (performance : Performance) → ((k : ℕ) → buffer ! k < 256) → performed buffer n row ≡ Ok performance
     → Flattened performance
 unfolding plain_of
 plays_the_same buffer n row performance bytes e =
@@ -63,7 +63,7 @@ plays_the_same buffer n row performance bytes e =
 
 -- FLATTENED AGAIN: a stream without points whose body is a plain form has that plain form.
 
-whole_order : (track : Track) → track.phrases ≡ false → track.entries ≡ [] → play_order track ≡ some (stream_section track.items 0 none ∷ [])
+whole_order : (track : Track) → track.phrases ≡ false → track.entries ≡ [] → play_order track ≡ Some (stream_section track.items 0 None ∷ [])
 unfolding play_order order_of start_point stop_point first_said ◌otherwise◌
 whole_order track stream points = rw (stream, points) refl
 
@@ -72,17 +72,17 @@ abbrev stream_plain : List ℕ → List (Placed (Item Event)) → List ℕ
 stream_plain body items = plain_form handy_phone (retold (content_of body) (streamed items))
 
 whole_plain : (track : Track)
-    → plain_of (record { track = track; tune = tune_in track (stream_section track.items 0 none ∷ []) }) ≡ stream_plain track.body track.items
+    → plain_of (record { track = track; tune = tune_in track (stream_section track.items 0 None ∷ []) }) ≡ stream_plain track.body track.items
 unfolding plain_of tune_in
 whole_plain track = refl
 
 pub plain_of_plain : (performance : Performance) (track : Track) → Flattened performance → track.voice ≡ performance.track.voice
-    → track.body ≡ plain_of performance → body_of track.voice track.body ≡ fine track.items → track.phrases ≡ false → track.entries ≡ []
-    → (again : Performance) × (ordered track (play_order track) ≡ fine again) × (plain_of again ≡ plain_of performance)
+    → track.body ≡ plain_of performance → body_of track.voice track.body ≡ Ok track.items → track.phrases ≡ false → track.entries ≡ []
+    → (again : Performance) × (ordered track (play_order track) ≡ Ok again) × (plain_of again ≡ plain_of performance)
 unfolding ordered
 plain_of_plain performance track flat voice body reads stream points =
-    let order = stream_section track.items 0 none ∷ [] in
-    let both : fine track.items ≡ fine flat.items = sym reads ∙ rw (voice, body) flat.reads in
+    let order = stream_section track.items 0 None ∷ [] in
+    let both : Ok track.items ≡ Ok flat.items = sym reads ∙ rw (voice, body) flat.reads in
     let items : track.items ≡ flat.items = cc in (
       record { track = track; tune = tune_in track order },
       rw (whole_order track stream points) refl,

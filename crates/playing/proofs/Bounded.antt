@@ -3,7 +3,7 @@
 use Prim.Native.Nat.{ℕ, ◌+◌, ◌<◌, ◌≤◌}
 use mathlib.Core.Bool.{true}
 use mathlib.Core.List.{List}
-use mathlib.Core.Option.{Option, none, some}
+use Rattle.std.specs.Prelude.{Option, None, Some}
 use mathlib.Core.Path.{◌≡◌, refl, sym, subst}
 use lib.ListN.{length}
 use native.Mathlib.Omega.{arith}
@@ -24,8 +24,8 @@ use Rattle.playing.specs.Performing.{letter_section, letter_span}
 module _ (voice : Voice) (s : List ℕ) (bytes : (k : ℕ) → s ! k < 256) (small : length s ≤ 65536) (reads : is_fine (body_of voice s) ≡ true) where
   phrase_small : (phrase : Option Addresses) → Small (length s) (span_of (items_of voice s) (length s) (phrase_section (items_of voice s) phrase))
   unfolding phrase_section passage_of
-  phrase_small none = between_small voice s bytes small reads _ 0 0 refl
-  phrase_small (some addresses) = between_small voice s bytes small reads _ addresses.from addresses.to refl
+  phrase_small None = between_small voice s bytes small reads _ 0 0 refl
+  phrase_small (Some addresses) = between_small voice s bytes small reads _ addresses.from addresses.to refl
 
   module _ (entries : List (Placed Entry)) (letter : ℕ) where
     letter_small : Small (length s) (letter_span (items_of voice s) (length s) entries letter)

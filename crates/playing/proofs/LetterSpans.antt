@@ -4,8 +4,6 @@ use Prim.Native.Nat.{ℕ, suc, ◌+◌, ◌*◌, ◌<◌, ◌≤◌}
 use mathlib.Core.Bool.{Bool, true, false}
 use mathlib.Core.List.{List, [], ◌∷◌}
 use mathlib.Core.Path.{◌≡◌, refl, sym, ◌∙◌, ap, ap₂, subst}
-use mir.Syntax.{w64}
-use mir.Val.{Fits}
 use lib.ListN.{length, get_or, take, drop, set, replicate, length-take}
 use lib.Seq.{drop-cons, drop-length, take-length, get_or-take}
 use native.Mathlib.Nat.{add-zero, zero-add, add_assoc}
@@ -19,6 +17,7 @@ use Rattle.model.specs.Play.{onsets_after, stops_in}
 use Rattle.model.specs.declared.Voice.{Voice}
 use Rattle.model.specs.declared.Span.{Span}
 use Rattle.model.specs.declared.Passage.{Passage}
+use Rattle.model.specs.declared.Total.{Total}
 use Rattle.model.proofs.Parts.{take_bytes}
 use Rattle.model.proofs.Picking.{through_at, through_whole}
 use Rattle.sections.specs.Spans.{Items, passage_of, SpanRises}
@@ -81,18 +80,6 @@ module _ (items : Items) (size : ℕ) (entries : List (Placed Entry)) where
     pub seen : (j : ℕ) → j < i → get_or known (letters ! j) false ≡ true
 
   module _ (letters : List ℕ) (spans : List Span) (known : List Bool) (i : ℕ) (p : Finding letters spans known i) where
-    pub find_slot : letters ! i < 256
-    find_slot = p.bytes i
-
-    pub find_slot_fits : Fits w64 (letters ! i)
-    find_slot_fits = record { fits = omega (arith, p.bytes i) }
-
-    pub find_offset_fits : Fits w64 (letters ! i * 40)
-    find_offset_fits = record { fits = omega (arith, p.bytes i) }
-
-    pub find_next_fits : i < length letters → Fits w64 (i + 1)
-    find_next_fits here = record { fits = omega (arith, p.listed) }
-
     -- so many letters whose spans are right, and which are those that are played
     found_so : (spans' : List Span) (count : ℕ) → count ≤ length letters → ((j : ℕ) → j < count → SpanOf (letters ! j) (span_at spans' (letters ! j)))
         → take count letters ≡ letters_heard items entries letters → Found items size entries letters (record { spans = spans'; letters = count })
@@ -119,12 +106,12 @@ module _ (items : Items) (size : ℕ) (entries : List (Placed Entry)) where
     before : (j : ℕ) → j < i → PassedBy (letters ! j) (span_at spans (letters ! j))
     before j h = p.table.right (letters ! j) (p.seen j h)
 
-    pub find_ends : length letters ≤ i → Found items size entries letters (record { spans = spans; letters = i })
+    pub find_ends : length letters ≤ i → Found items size entries letters (record { spans = spans; letters = length letters })
     unfolding letters_heard
     find_ends past =
         let all : i ≡ length letters = omega (arith, p.within) in
-        found_so spans i p.within (λ j h. (before j h).0)
-        (ap (λ (n : ℕ). take n letters) all ∙ take-length letters ∙ through_whole Stops letters (λ j h. (before j (omega arith)).1))
+        found_so spans (length letters) (omega arith) (λ j h. (before j (omega arith)).0)
+        (take-length letters ∙ through_whole Stops letters (λ j h. (before j (omega arith)).1))
 
     pub find_turns : (spans' : List Span) (known' : List Bool) → i < length letters → Known no_span PassedBy (letters ! i) known spans' known'
         → Finding letters spans' known' (i + 1)
@@ -173,23 +160,23 @@ find_starts voice s entries letters span bytes letter-bytes small reads listed =
       seen = λ j h. absurd (omega arith);
     }
 
-pub ruleset finding = (named_here, find_slot, find_slot_fits, find_offset_fits, find_next_fits, find_ends, find_turns, find_stops)
+pub ruleset finding = (named_here, find_ends, find_turns, find_stops)
 
 -- WHAT THEY COME TO together
 
-pub record Adding (spans : List Span) (letters : List ℕ) (count end i : ℕ) : Type 0 where
+pub record Adding (spans : List Span) (letters : List ℕ) (total : Total) (i : ℕ) : Type 0 where
   pub bytes : (k : ℕ) → letters ! k < 256
   pub listed : length letters ≤ 65536
   pub few : AllFew spans letters
   pub short : AllShort spans letters
   pub within : i ≤ length letters
-  pub many : count ≤ 65536 * i
-  pub long : end ≤ 1082064896 * i
-  pub counted : count + messages_together spans (drop i letters) ≡ messages_together spans letters
-  pub ended : end + lasts_together spans (drop i letters) ≡ lasts_together spans letters
+  pub many : total.count ≤ 65536 * i
+  pub long : total.end ≤ 1082064896 * i
+  pub counted : total.count + messages_together spans (drop i letters) ≡ messages_together spans letters
+  pub ended : total.end + lasts_together spans (drop i letters) ≡ lasts_together spans letters
 
 pub add_starts : (spans : List Span) (letters : List ℕ) → ((k : ℕ) → letters ! k < 256) → length letters ≤ 65536 → AllFew spans letters → AllShort spans letters
-    → Adding spans letters 0 0 0
+    → Adding spans letters (record { count = 0; end = 0 }) 0
 add_starts spans letters bytes listed few short =
     record {
       bytes = bytes;
@@ -203,38 +190,21 @@ add_starts spans letters bytes listed few short =
       ended = zero-add _;
     }
 
-module _ (spans : List Span) (letters : List ℕ) (count end i : ℕ) (p : Adding spans letters count end i) where
-  pub add_slot : letters ! i < 256
-  add_slot = p.bytes i
-
-  pub add_slot_fits : Fits w64 (letters ! i)
-  add_slot_fits = record { fits = omega (arith, p.bytes i) }
-
-  pub add_offset_fits : Fits w64 (letters ! i * 40)
-  add_offset_fits = record { fits = omega (arith, p.bytes i) }
-
-  pub add_ends : length letters ≤ i → record { count = count; end = end } ≡ total_of spans letters
+module _ (spans : List Span) (letters : List ℕ) (total : Total) (i : ℕ) (p : Adding spans letters total i) where
+  pub add_ends : length letters ≤ i → total ≡ total_of spans letters
   unfolding total_of messages_together lasts_together
   add_ends past =
       let all : drop i letters ≡ [] = (let end : i ≡ length letters = omega (arith, p.within) in ap (λ (n : ℕ). drop n letters) end ∙ drop-length letters) in
       ap₂ (λ (n t : ℕ). record { count = n; end = t })
-      (sym (add-zero count) ∙ ap (λ (l : List ℕ). count + messages_together spans l) (sym all) ∙ p.counted)
-      (sym (add-zero end) ∙ ap (λ (l : List ℕ). end + lasts_together spans l) (sym all) ∙ p.ended)
+      (sym (add-zero total.count) ∙ ap (λ (l : List ℕ). total.count + messages_together spans l) (sym all) ∙ p.counted)
+      (sym (add-zero total.end) ∙ ap (λ (l : List ℕ). total.end + lasts_together spans l) (sym all) ∙ p.ended)
 
   module _ (here : i < length letters) where
     next : drop i letters ≡ letters ! i ∷ drop (i + 1) letters
     next = let on : suc i ≡ i + 1 = omega arith in drop-cons letters i 0 here ∙ ap (λ (n : ℕ). letters ! i ∷ drop n letters) on
 
-    pub add_counts : Fits w64 (count + (span_at spans (letters ! i)).messages)
-    add_counts = record { fits = omega (arith, p.few i here, p.many, p.listed) }
-
-    pub add_lasts : Fits w64 (end + (span_at spans (letters ! i)).lasts)
-    add_lasts = record { fits = omega (arith, p.short i here, p.long, p.listed) }
-
-    pub add_next_fits : Fits w64 (i + 1)
-    add_next_fits = record { fits = omega (arith, p.listed) }
-
-    pub add_turns : Adding spans letters (count + (span_at spans (letters ! i)).messages) (end + (span_at spans (letters ! i)).lasts) (i + 1)
+    pub add_turns : Adding spans letters
+        (record { count = total.count + (span_at spans (letters ! i)).messages; end = total.end + (span_at spans (letters ! i)).lasts }) (i + 1)
     unfolding messages_together lasts_together
     add_turns =
         record {
@@ -245,8 +215,8 @@ module _ (spans : List Span) (letters : List ℕ) (count end i : ℕ) (p : Addin
           within = omega arith;
           many = omega (arith, p.few i here, p.many);
           long = omega (arith, p.short i here, p.long);
-          counted = add_assoc count _ _ ∙ ap (λ (l : List ℕ). count + messages_together spans l) (sym next) ∙ p.counted;
-          ended = add_assoc end _ _ ∙ ap (λ (l : List ℕ). end + lasts_together spans l) (sym next) ∙ p.ended;
+          counted = add_assoc total.count _ _ ∙ ap (λ (l : List ℕ). total.count + messages_together spans l) (sym next) ∙ p.counted;
+          ended = add_assoc total.end _ _ ∙ ap (λ (l : List ℕ). total.end + lasts_together spans l) (sym next) ∙ p.ended;
         }
 
-pub ruleset adding = (add_slot, add_slot_fits, add_offset_fits, add_ends, add_counts, add_lasts, add_next_fits, add_turns)
+pub ruleset adding = (add_ends, add_turns)

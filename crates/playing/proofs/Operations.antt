@@ -3,9 +3,9 @@ use Prim.Native.Nat.{ℕ, ◌<◌, ◌≤◌}
 use mathlib.Core.Path.{◌≡◌, refl, sym, ◌∙◌, ap}
 use mathlib.Core.Bool.{Bool, true}
 use mathlib.Core.List.{List}
-use mathlib.Core.Option.{Option, none, some}
+use Rattle.std.specs.Prelude.{Option, None, Some, Ok, Err}
 use lib.ListN.{length, take}
-use Rattle.model.specs.Words.{when◌then◌else◌, ◌<?◌, Checked, Checked.fine, Checked.refused, passed, ◌>>=◌, ◌>>◌}
+use Rattle.model.specs.Words.{when◌then◌else◌, ◌<?◌, Checked, passed, ◌>>=◌, ◌>>◌, refused}
 use Rattle.model.specs.Item.{is_fine}
 use Rattle.model.specs.Play.{Section, Tune}
 use Rattle.model.specs.Order.{play_order, tune_in}
@@ -14,12 +14,8 @@ use Rattle.model.specs.File.{File, contents_of, file_of}
 use Rattle.model.specs.Answer.{Performance, ordered, performed, play_of, play_answer, steps_table, words_table}
 use Rattle.model.specs.declared.Event.{Event}
 use Rattle.model.specs.declared.Bodies.{Bodies}
-use Rattle.model.specs.declared.OpenedTrack.{OpenedTrack}
-use Rattle.model.specs.declared.OpenedTrack.TheVariants as opened
-use Rattle.model.specs.declared.Counted.{Counted}
-use Rattle.model.specs.declared.Counted.TheVariants as counted
+use Rattle.model.specs.declared.Refusal.{Refusal}
 use Rattle.model.specs.declared.PlayAnswer.{PlayAnswer}
-use Rattle.model.specs.declared.PlayAnswer.TheVariants as play
 use Rattle.model.proofs.Tests.{by_test}
 use Rattle.reading.specs.Stages.{file_answer}
 use Rattle.reading.proofs.Stated.{stated_past, stated_over, stated_within, stated_small}
@@ -29,7 +25,7 @@ use Rattle.playing.proofs.RowPerformed.{stated_fine, stated_refused, opened_trac
 
 -- what is answered and left where an outcome is known under another name
 module _ (one other : Checked (Tune Event)) (same : one ≡ other) where
-  pub same_answer : (r : PlayAnswer) → r ≡ play_answer one → r ≡ play_answer other
+  pub same_answer : (r : Checked PlayAnswer) → r ≡ play_answer one → r ≡ play_answer other
   same_answer r e = e ∙ ap play_answer same
 
   pub same_steps : (l m : List ℕ) → m ≡ steps_table l one → m ≡ steps_table l other
@@ -45,41 +41,22 @@ module _ (s : List ℕ) (bodies : Bodies) (inside : Inside s bodies) (body seek 
   pub bodies_ready : Ready bodies.voice flag body seek
   bodies_ready = rw (cut, sought, sym phrases) inside.ready
 
-  bodies_heard : (room : ℕ) → heard bodies.voice flag bodies.header room body seek
-      ≡ heard bodies.voice bodies.phrases bodies.header room (bytes_in s bodies.sequence) (bytes_in s bodies.seek)
-  bodies_heard room = rw (cut, sought, sym phrases) refl
-
-  module _ (room : ℕ) where
-    pub bodies_answer : (r : PlayAnswer) → r ≡ play_answer (heard bodies.voice flag bodies.header room body seek)
-        → r ≡ play_answer (heard bodies.voice bodies.phrases bodies.header room (bytes_in s bodies.sequence) (bytes_in s bodies.seek))
-    bodies_answer = same_answer _ _ (bodies_heard room)
-
-    pub bodies_steps : (l m : List ℕ) → m ≡ steps_table l (heard bodies.voice flag bodies.header room body seek)
-        → m ≡ steps_table l (heard bodies.voice bodies.phrases bodies.header room (bytes_in s bodies.sequence) (bytes_in s bodies.seek))
-    bodies_steps = same_steps _ _ (bodies_heard room)
-
-    pub bodies_words : (l m : List ℕ) → m ≡ words_table l (heard bodies.voice flag bodies.header room body seek)
-        → m ≡ words_table l (heard bodies.voice bodies.phrases bodies.header room (bytes_in s bodies.sequence) (bytes_in s bodies.seek))
-    bodies_words = same_words _ _ (bodies_heard room)
-
-pub ruleset bodies_played = (bodies_ready, bodies_answer, bodies_steps, bodies_words)
-
 -- THE ROW
 
 -- an order, and room for what it plays
 abbrev roomy : ℕ → Performance → Checked (Tune Event)
 roomy room performance =
-    (when room <? length performance.tune.messages then refused 15 performance.track.header else passed) >> fine performance.tune
+    (when room <? length performance.tune.messages then refused 15 performance.track.header else passed) >> Ok performance.tune
 
 sections_played_lem : (track : Track) (room : ℕ) (sections : List Section)
-    → roomy room (record { track = track; tune = tune_in track sections }) ≡ played track.header room track.items (some sections)
+    → roomy room (record { track = track; tune = tune_in track sections }) ≡ played track.header room track.items (Some sections)
 unfolding played fitted tune_in ◌>>◌ when◌then◌else◌
 sections_played_lem track room sections = by_test (room <? length (tune_in track sections).messages) (λ h. simp h) (λ h. simp h)
 
 order_played : (track : Track) (room : ℕ) (o : Option (List Section)) → (ordered track o >>= roomy room) ≡ played track.header room track.items o
 unfolding ordered played ◌>>=◌
-order_played track room none = refl
-order_played track room (some sections) = sections_played_lem track room sections
+order_played track room None = refl
+order_played track room (Some sections) = sections_played_lem track room sections
 
 row_refused : (room row : ℕ) (c : Checked File) (number place : ℕ) → row_performed c row ≡ refused number place → row_played room c row ≡ refused number place
 unfolding row_played ◌>>=◌
@@ -91,8 +68,8 @@ track_heard : (s : List ℕ) (room : ℕ) (bodies : Bodies) (track : Track) → 
 unfolding heard play_order
 track_heard s room bodies track o = rw (o.header, o.phrases, o.items, o.entries) refl
 
-module _ (s : List ℕ) (row : ℕ) (o : OpenedTrack) (opens : Opens s (track_named (contents_of s) row) o) where
-  module _ (bodies : Bodies) (e : o ≡ opened.At bodies) (room : ℕ) where
+module _ (s : List ℕ) (row : ℕ) (o : Option Bodies) (opens : Opens s (track_named (contents_of s) row) o) where
+  module _ (bodies : Bodies) (e : o ≡ Some bodies) (room : ℕ) where
     row_heard : heard bodies.voice bodies.phrases bodies.header room (bytes_in s bodies.sequence) (bytes_in s bodies.seek)
         ≡ row_played room (contents_of s) row
     unfolding row_played
@@ -101,7 +78,7 @@ module _ (s : List ℕ) (row : ℕ) (o : OpenedTrack) (opens : Opens s (track_na
         track_heard s room bodies found.0 found.2 ∙ sym (order_played found.0 room (play_order found.0))
         ∙ ap (λ (c : Checked Performance). c >>= roomy room) (sym found.1)
 
-    pub row_answer : (r : PlayAnswer)
+    pub row_answer : (r : Checked PlayAnswer)
         → r ≡ play_answer (heard bodies.voice bodies.phrases bodies.header room (bytes_in s bodies.sequence) (bytes_in s bodies.seek))
         → r ≡ play_answer (row_played room (contents_of s) row)
     row_answer = same_answer _ _ row_heard
@@ -116,11 +93,11 @@ module _ (s : List ℕ) (row : ℕ) (o : OpenedTrack) (opens : Opens s (track_na
         → m ≡ words_table l (row_played room (contents_of s) row)
     row_words = same_words _ _ row_heard
 
-  module _ (ok : is_fine (contents_of s) ≡ true) (room : ℕ) (e : o ≡ opened.Nowhere) where
+  module _ (ok : is_fine (contents_of s) ≡ true) (room : ℕ) (e : o ≡ None) where
     no_row : row_played room (contents_of s) row ≡ refused 16 0
     no_row = row_refused room row (contents_of s) 16 0 (no_track s row o opens ok e)
 
-    pub no_row_answer : play.Refused 16 0 ≡ play_answer (row_played room (contents_of s) row)
+    pub no_row_answer : refused 16 0 ≡ play_answer (row_played room (contents_of s) row)
     no_row_answer = refused_answer _ 16 0 no_row
 
     pub no_row_steps : (l : List ℕ) → l ≡ steps_table l (row_played room (contents_of s) row)
@@ -133,19 +110,19 @@ pub ruleset rows_played = (row_inside, row_answer, row_steps, row_words, no_row_
 
 -- THE STATED BYTES
 
-module _ (s : List ℕ) (r : Counted) (told : r ≡ file_answer (contents_of s)) where
-  module _ (room row number place : ℕ) (e : r ≡ counted.Refused number place) where
-    stated : row_played room (contents_of s) row ≡ refused number place
-    stated = row_refused room row (contents_of s) number place (stated_refused s r told row number place e)
+module _ (s : List ℕ) (r : Checked ℕ) (told : r ≡ file_answer (contents_of s)) where
+  module _ (room row : ℕ) (why : Refusal) (e : r ≡ Err why) where
+    stated : row_played room (contents_of s) row ≡ Err why
+    stated = row_refused room row (contents_of s) why.number why.place (stated_refused s r told row why e)
 
-    pub stated_answer : play.Refused number place ≡ play_answer (row_played room (contents_of s) row)
-    stated_answer = refused_answer _ number place stated
+    pub stated_answer : Err why ≡ play_answer (row_played room (contents_of s) row)
+    stated_answer = refused_answer _ why.number why.place stated
 
     pub stated_steps : (l : List ℕ) → l ≡ steps_table l (row_played room (contents_of s) row)
-    stated_steps = refused_steps _ number place stated
+    stated_steps = refused_steps _ why.number why.place stated
 
     pub stated_words : (l : List ℕ) → l ≡ words_table l (row_played room (contents_of s) row)
-    stated_words = refused_words _ number place stated
+    stated_words = refused_words _ why.number why.place stated
 
 pub ruleset stated_played = (stated_fine, stated_answer, stated_steps, stated_words)
 
@@ -164,7 +141,7 @@ module _ (buffer : List ℕ) (n row room : ℕ) where
   unfolding row_played row_performed ◌>>=◌
   over h k = play_is buffer n row room (refused 1 0) (stated_over buffer n h k)
 
-  pub past_answer : length buffer < n → play.Refused 1 0 ≡ play_answer (play_of buffer n row room)
+  pub past_answer : length buffer < n → refused 1 0 ≡ play_answer (play_of buffer n row room)
   past_answer h = refused_answer _ 1 0 (past h)
 
   pub past_steps : (l : List ℕ) → length buffer < n → l ≡ steps_table l (play_of buffer n row room)
@@ -173,7 +150,7 @@ module _ (buffer : List ℕ) (n row room : ℕ) where
   pub past_words : (l : List ℕ) → length buffer < n → l ≡ words_table l (play_of buffer n row room)
   past_words l h = refused_words _ 1 0 (past h) l
 
-  pub over_answer : n ≤ length buffer → 65536 < n → play.Refused 1 0 ≡ play_answer (play_of buffer n row room)
+  pub over_answer : n ≤ length buffer → 65536 < n → refused 1 0 ≡ play_answer (play_of buffer n row room)
   over_answer h k = refused_answer _ 1 0 (over h k)
 
   pub over_steps : (l : List ℕ) → n ≤ length buffer → 65536 < n → l ≡ steps_table l (play_of buffer n row room)
@@ -186,7 +163,7 @@ module _ (buffer : List ℕ) (n row room : ℕ) where
     within : row_played room (contents_of (take n buffer)) row ≡ play_of buffer n row room
     within = sym (play_is buffer n row room (contents_of (take n buffer)) (stated_within buffer n h k))
 
-    pub whole_answer : (r : PlayAnswer) → r ≡ play_answer (row_played room (contents_of (take n buffer)) row) → r ≡ play_answer (play_of buffer n row room)
+    pub whole_answer : (r : Checked PlayAnswer) → r ≡ play_answer (row_played room (contents_of (take n buffer)) row) → r ≡ play_answer (play_of buffer n row room)
     whole_answer = same_answer _ _ within
 
     pub whole_steps : (l m : List ℕ) → m ≡ steps_table l (row_played room (contents_of (take n buffer)) row) → m ≡ steps_table l (play_of buffer n row room)

@@ -3,11 +3,11 @@ use Prim.Native.Nat.{ℕ, ◌<◌, ◌≤◌, min}
 use mathlib.Core.Path.{◌≡◌, refl, sym, ◌∙◌, ap, subst}
 use mathlib.Core.Bool.{true}
 use mathlib.Core.List.{List, map}
-use mathlib.Core.Option.{none, some}
+use Rattle.std.specs.Prelude.{None, Some, Ok}
 use lib.ListN.{length, take}
 use lib.Seq.{sets}
 use native.Mathlib.Omega.{arith}
-use Rattle.model.specs.Words.{Checked, Checked.refused}
+use Rattle.model.specs.Words.{Checked, refused}
 use Rattle.model.specs.Item.{is_fine, body_of, items_of}
 use Rattle.model.specs.Play.{Tune}
 use Rattle.model.specs.Order.{order_of}
@@ -18,7 +18,6 @@ use Rattle.model.specs.declared.Span.{Span}
 use Rattle.model.specs.declared.FoundSpans.{FoundSpans}
 use Rattle.model.specs.declared.Total.{Total}
 use Rattle.model.specs.declared.PlayAnswer.{PlayAnswer}
-use Rattle.model.specs.declared.PlayAnswer.TheVariants as play
 use Rattle.sections.specs.Spans.{Items, steps_of, words_of}
 use Rattle.playing.specs.Performing.{entries_said, Ready, letter_section, Spanned, messages_together, lasts_together, total_of, Heard, Found, rows_together, tune_together, fitted, played, heard}
 use Rattle.playing.proofs.Played.{refused_answer, refused_steps, refused_words, tune_short, tune_answer, tune_steps, tune_words}
@@ -32,12 +31,12 @@ module _ (voice : Voice) (header : ℕ) (body seek steps words : List ℕ) where
   room = min (length steps) (length words)
 
   -- no order list
-  module _ (none_there : order_of true (items_of voice body) (entries_said true seek) ≡ none) where
+  module _ (none_there : order_of true (items_of voice body) (entries_said true seek) ≡ None) where
     no_order : heard voice true header room body seek ≡ refused 17 header
     unfolding heard played
     no_order = rw none_there
 
-    pub unordered_answer : play.Refused 17 header ≡ play_answer (heard voice true header (min (length steps) (length words)) body seek)
+    pub unordered_answer : refused 17 header ≡ play_answer (heard voice true header (min (length steps) (length words)) body seek)
     unordered_answer = refused_answer _ 17 header no_order
 
     pub unordered_steps : steps ≡ steps_table steps (heard voice true header (min (length steps) (length words)) body seek)
@@ -48,7 +47,7 @@ module _ (voice : Voice) (header : ℕ) (body seek steps words : List ℕ) where
 
   -- the letters up to where playing stops
   module _ (ready : Ready voice true body seek) (letters : List ℕ)
-      (order : order_of true (items_of voice body) (entries_said true seek) ≡ some (map (letter_section (items_of voice body) (entries_said true seek)) letters))
+      (order : order_of true (items_of voice body) (entries_said true seek) ≡ Some (map (letter_section (items_of voice body) (entries_said true seek)) letters))
       (found : FoundSpans) (finds : Found (items_of voice body) (length body) (entries_said true seek) letters found) where
     pub found_within : found.letters ≤ length letters
     found_within = finds.within
@@ -65,7 +64,7 @@ module _ (voice : Voice) (header : ℕ) (body seek steps words : List ℕ) where
           (subst (Spanned items (length body) (entries_said true seek) found.spans) (sym are) finds.spanned))
           ∙ sym (rw order refl)
 
-      pub order_answer : (r : PlayAnswer) → r ≡ play_answer (fitted header (min (length steps) (length words)) (tune_together (items_of voice body) found.spans front))
+      pub order_answer : (r : Checked PlayAnswer) → r ≡ play_answer (fitted header (min (length steps) (length words)) (tune_together (items_of voice body) found.spans front))
           → r ≡ play_answer (heard voice true header (min (length steps) (length words)) body seek)
       order_answer r e = e ∙ ap play_answer order_is
 
@@ -121,7 +120,7 @@ module _ (voice : Voice) (header : ℕ) (body steps words : List ℕ) (spans : L
     short : least < total.count → outcome ≡ refused 15 header
     short few = tune_short _ header (min (length steps) (length words)) tune refl _ rows_are total.count many (omega arith)
 
-    pub spans_short : least < total.count → play.Refused 15 header ≡ play_answer (fitted header (min (length steps) (length words)) (tune_together (items_of voice body) spans letters))
+    pub spans_short : least < total.count → refused 15 header ≡ play_answer (fitted header (min (length steps) (length words)) (tune_together (items_of voice body) spans letters))
     spans_short few = refused_answer _ 15 header (short few)
 
     pub spans_short_steps : least < total.count
@@ -133,7 +132,7 @@ module _ (voice : Voice) (header : ℕ) (body steps words : List ℕ) (spans : L
     spans_short_words few = refused_words _ 15 header (short few) words
 
     module _ (enough : total.count ≤ least) where
-      pub spans_answer : play.Rows total.count total.end
+      pub spans_answer : (Ok (record { count = total.count; end = total.end }))
           ≡ play_answer (fitted header (min (length steps) (length words)) (tune_together (items_of voice body) spans letters))
       spans_answer = tune_answer _ header (min (length steps) (length words)) tune refl _ rows_are total.count many total.end end_is (omega arith)
 

@@ -3,7 +3,7 @@ use Prim.Native.Nat.{ℕ, zero, suc, ◌+◌, ◌-◌, ◌<◌, ◌≤◌}
 use mathlib.Core.Path.{◌≡◌, refl, sym, ◌∙◌, ap, ap₂, subst}
 use mathlib.Core.Bool.{true, false, not, false≢true}
 use mathlib.Core.List.{List, [], ◌∷◌, map}
-use mathlib.Core.Option.{Option, none, some}
+use Rattle.std.specs.Prelude.{Option, None, Some}
 use lib.ListN.{length, take, drop, length-take, length-drop}
 use lib.Seq.{take-nil, take-take, drop-drop}
 use native.Mathlib.Nat.{sub-zero}
@@ -50,15 +50,15 @@ part_of_part s place many from size h =
     ap (take size) (drop_of_take from many (drop place s)) ∙ take-take size (many - from) (drop from (drop place s)) (omega arith)
     ∙ ap (take size) (drop-drop from place s)
 
-some_list : (o : Option (List ℕ)) → is_some o ≡ true → o ≡ some (o otherwise [])
+some_list : (o : Option (List ℕ)) → is_some o ≡ true → o ≡ Some (o otherwise [])
 unfolding is_some ◌otherwise◌
-some_list none h = absurd (false≢true h)
-some_list (some l) h = refl
+some_list None h = absurd (false≢true h)
+some_list (Some l) h = refl
 
-no_list : (o : Option (List ℕ)) → is_some o ≡ false → o ≡ none
+no_list : (o : Option (List ℕ)) → is_some o ≡ false → o ≡ None
 unfolding is_some
-no_list none h = refl
-no_list (some l) h = absurd (false≢true (sym h))
+no_list None h = refl
+no_list (Some l) h = absurd (false≢true (sym h))
 
 module _ (voice : Voice) (body seek : List ℕ) (ready : Ready voice true body seek) (points : Points) (said : points ≡ points_said (entries_said true seek)) where
   abbrev items : List (Placed (Item Event))
@@ -72,7 +72,7 @@ module _ (voice : Voice) (body seek : List ℕ) (ready : Ready voice true body s
   has_list_lem = ap (λ (p : Points). p.ordered) said
 
   -- without an order list there is no order
-  pub unordered : not points.ordered ≡ true → order_of true (items_of voice body) (entries_said true seek) ≡ none
+  pub unordered : not points.ordered ≡ true → order_of true (items_of voice body) (entries_said true seek) ≡ None
   unfolding order_of phrase_order
   unordered h = rw (no_list (order_list entries) (sym has_list_lem ∙ not-true _ h))
 
@@ -83,7 +83,7 @@ module _ (voice : Voice) (body seek : List ℕ) (ready : Ready voice true body s
     abbrev list : List ℕ
     list = order_list entries otherwise []
 
-    listed : order_list entries ≡ some list
+    listed : order_list entries ≡ Some list
     listed = some_list (order_list entries) (sym has_list_lem ∙ has)
 
     some_bytes : (length seek ≡? 0) ≡ false
@@ -204,11 +204,11 @@ module _ (voice : Voice) (body seek : List ℕ) (ready : Ready voice true body s
           let is : letters ! i ≡ list ! (points.start + i) = ap (λ (l : List ℕ). l ! i) played_are ∙ part_at list points.start (last_position points - points.start) i short in
           rw is (all_named (points.start + i) inside)
 
-      pub order_sections : order_of true (items_of voice body) (entries_said true seek) ≡ some (map (letter_section (items_of voice body) (entries_said true seek)) letters)
+      pub order_sections : order_of true (items_of voice body) (entries_said true seek) ≡ Some (map (letter_section (items_of voice body) (entries_said true seek)) letters)
       unfolding order_of phrase_order letters_played letter_section
       order_sections =
           rw listed
-          (ap (λ (l : List ℕ). some (map (λ letter. phrase_section items (phrase_of letter entries)) l))
+          (ap (λ (l : List ℕ). Some (map (λ letter. phrase_section items (phrase_of letter entries)) l))
           (ap₂ (λ (n k : ℕ). part list n (k - n)) (sym started) (sym last.is) ∙ sym played_are))
 
 pub ruleset orders = (unordered, order_listed, order_few, order_named, order_sections)

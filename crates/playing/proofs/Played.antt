@@ -9,7 +9,8 @@ use lib.Seq.{sets, sets-eq}
 use native.Mathlib.Nat.{zero-add, add-zero}
 use native.Mathlib.Omega.{arith}
 use borrow.Author.Tests.{lt-ltb, le-ltb}
-use Rattle.model.specs.Words.{sum, ◌otherwise◌, Checked, Checked.fine, Checked.refused, when◌then◌else◌}
+use Rattle.model.specs.Words.{sum, ◌otherwise◌, Checked, when◌then◌else◌, refused}
+use Rattle.std.specs.Prelude.{Ok}
 use Rattle.model.specs.Item.{items_of}
 use Rattle.model.specs.Seek.{start_point, stop_point}
 use Rattle.model.specs.Play.{At, Section, Tune, onsets_after, sounding, lasts_in, played_from, all_played, tune_of}
@@ -19,7 +20,6 @@ use Rattle.model.specs.Answer.{written_over, memory_after, play_answer, steps_ta
 use Rattle.model.specs.declared.Voice.{Voice}
 use Rattle.model.specs.declared.Event.{Event}
 use Rattle.model.specs.declared.Span.{Span}
-use Rattle.model.specs.declared.PlayAnswer.TheVariants as play
 use Rattle.sections.specs.Spans.{Items, span_of, span_rows, steps_of, words_of, Playable}
 use Rattle.sections.proofs.Stretches.{span_sounds, span_counts}
 use Rattle.sections.proofs.WholeStream.{played_alone}
@@ -28,7 +28,7 @@ use Rattle.playing.specs.Performing.{entries_said, Ready, fitted, played, heard}
 -- a refusal answers its number and place, and keeps the tables
 
 module _ (o : Checked (Tune Event)) (number place : ℕ) (is : o ≡ refused number place) where
-  pub refused_answer : play.Refused number place ≡ play_answer o
+  pub refused_answer : refused number place ≡ play_answer o
   unfolding play_answer
   refused_answer = ap play_answer (sym is)
 
@@ -57,13 +57,13 @@ module _ (o : Checked (Tune Event)) (header room : ℕ) (tune : Tune Event) (is 
   unfolding fitted when◌then◌else◌
   tune_short h = let short : room < length tune.messages = omega (arith, counted) in is ∙ simp lt-ltb
 
-  tune_fits : count ≤ room → o ≡ fine tune
+  tune_fits : count ≤ room → o ≡ Ok tune
   unfolding fitted when◌then◌else◌
   tune_fits h = let enough : length tune.messages ≤ room = omega (arith, counted) in is ∙ simp le-ltb
 
-  pub tune_answer : (end : ℕ) → end ≡ tune.end → count ≤ room → play.Rows count end ≡ play_answer o
+  pub tune_answer : (end : ℕ) → end ≡ tune.end → count ≤ room → Ok (record { count = count; end = end }) ≡ play_answer o
   unfolding play_answer
-  tune_answer end e h = ap₂ (λ (k t : ℕ). play.Rows k t) counted e ∙ ap play_answer (sym (tune_fits h))
+  tune_answer end e h = ap₂ (λ (k t : ℕ). (Ok (record { count = k; end = t }))) counted e ∙ ap play_answer (sym (tune_fits h))
 
   pub tune_steps : (l m : List ℕ) → count ≤ room → room ≤ length l → m ≡ sets l 0 (steps_of rows) → m ≡ steps_table l o
   unfolding steps_table memory_after steps_of
@@ -135,7 +135,7 @@ module _ (voice : Voice) (header : ℕ) (body seek steps words : List ℕ) (read
     short : least < span.messages → heard voice false header room body seek ≡ refused 15 header
     short h = tune_short _ header room tune stream_is _ rows_are span.messages rows_many (omega arith)
 
-    pub stream_short : least < span.messages → play.Refused 15 header ≡ play_answer (heard voice false header (min (length steps) (length words)) body seek)
+    pub stream_short : least < span.messages → refused 15 header ≡ play_answer (heard voice false header (min (length steps) (length words)) body seek)
     stream_short h = refused_answer _ 15 header (short h)
 
     pub stream_short_steps : least < span.messages → steps ≡ steps_table steps (heard voice false header (min (length steps) (length words)) body seek)
@@ -145,7 +145,7 @@ module _ (voice : Voice) (header : ℕ) (body seek steps words : List ℕ) (read
     stream_short_words h = refused_words _ 15 header (short h) words
 
   module _ (steps-room : span.messages ≤ length steps) (words-room : span.messages ≤ length words) where
-    pub stream_answer : play.Rows span.messages span.lasts ≡ play_answer (heard voice false header (min (length steps) (length words)) body seek)
+    pub stream_answer : (Ok (record { count = span.messages; end = span.lasts })) ≡ play_answer (heard voice false header (min (length steps) (length words)) body seek)
     stream_answer = tune_answer _ header room tune stream_is _ rows_are span.messages rows_many span.lasts lasts_are (omega arith)
 
     pub stream_steps : (m : List ℕ) → m ≡ sets steps 0 (steps_of (span_rows (items_of voice body) span 0))

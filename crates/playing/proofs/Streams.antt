@@ -3,7 +3,7 @@ use Prim.Native.Nat.{ℕ, ◌≤◌}
 use mathlib.Core.Path.{◌≡◌, refl, sym, ◌∙◌, ap}
 use mathlib.Core.Bool.{Bool, true, false, not, false≢true}
 use mathlib.Core.List.{List}
-use mathlib.Core.Option.{Option, none, some}
+use Rattle.std.specs.Prelude.{Option, None, Some}
 use lib.ListN.{length}
 use native.Mathlib.Omega.{arith}
 use borrow.Author.Tests.{ltb-false, eq-eqb, ne_eqb, not-true}
@@ -44,14 +44,14 @@ pub ruleset saying = (points_none, points_formed, points_some)
 
 -- THE POINTS OF A STREAM
 
-start_is : (entry : Entry) (value : ℕ) → start_in entry ≡ some value → entry ≡ start value
+start_is : (entry : Entry) (value : ℕ) → start_in entry ≡ Some value → entry ≡ start value
 unfolding start_in
 start_is (start v) value e = let same : v ≡ value = cc in ap start same
 start_is (stop v) value e = let z : ◌≡◌ {A = ℕ} 0 1 = cc in absurd (omega arith)
 start_is (phrase letter from to) value e = let z : ◌≡◌ {A = ℕ} 0 1 = cc in absurd (omega arith)
 start_is (order letters) value e = let z : ◌≡◌ {A = ℕ} 0 1 = cc in absurd (omega arith)
 
-stop_is : (entry : Entry) (value : ℕ) → stop_in entry ≡ some value → entry ≡ stop value
+stop_is : (entry : Entry) (value : ℕ) → stop_in entry ≡ Some value → entry ≡ stop value
 unfolding stop_in
 stop_is (start v) value e = let z : ◌≡◌ {A = ℕ} 0 1 = cc in absurd (omega arith)
 stop_is (stop v) value e = let same : v ≡ value = cc in ap stop same
@@ -59,14 +59,14 @@ stop_is (phrase letter from to) value e = let z : ◌≡◌ {A = ℕ} 0 1 = cc i
 stop_is (order letters) value e = let z : ◌≡◌ {A = ℕ} 0 1 = cc in absurd (omega arith)
 
 module _ (address point : ℕ → Bool) (entries : List (Placed Entry)) (all : points_hold address point entries ≡ passed) where
-  pub start_holds : (value : ℕ) → start_point entries ≡ some value → point value ≡ true
+  pub start_holds : (value : ℕ) → start_point entries ≡ Some value → point value ≡ true
   unfolding points_hold start_point point_holds
   start_holds value e =
       let s = said_by _ _ entries value all e in
       let k = kept _ s.0.place s.2 in
       rw (start_is s.0.what value s.1) at k
 
-  pub stop_holds : (value : ℕ) → stop_point entries ≡ some value → (point value ≡ true) × ((start_point entries otherwise 0) ≤ value)
+  pub stop_holds : (value : ℕ) → stop_point entries ≡ Some value → (point value ≡ true) × ((start_point entries otherwise 0) ≤ value)
   unfolding points_hold stop_point point_holds
   stop_holds value e =
       let s = said_by _ _ entries value all e in
@@ -75,20 +75,20 @@ module _ (address point : ℕ → Bool) (entries : List (Placed Entry)) (all : p
       (and_left _ _ h, ltb-false value _ (not-true _ (and_right (point value) _ h)))
 
 -- a point that is said, or its default
-pub said_or : (P : ℕ → Type 0) (o : Option ℕ) → ((value : ℕ) → o ≡ some value → P value) → P 0 → P (o otherwise 0)
+pub said_or : (P : ℕ → Type 0) (o : Option ℕ) → ((value : ℕ) → o ≡ Some value → P value) → P 0 → P (o otherwise 0)
 unfolding ◌otherwise◌
-said_or P none h z = z
-said_or P (some value) h z = h value refl
+said_or P None h z = z
+said_or P (Some value) h z = h value refl
 
-pub some_said : (o : Option ℕ) → is_some o ≡ true → (value : ℕ) × (o ≡ some value)
+pub some_said : (o : Option ℕ) → is_some o ≡ true → (value : ℕ) × (o ≡ Some value)
 unfolding is_some
-some_said none h = absurd (false≢true h)
-some_said (some value) h = (value, refl)
+some_said None h = absurd (false≢true h)
+some_said (Some value) h = (value, refl)
 
-pub none_said : (o : Option ℕ) → is_some o ≡ false → o ≡ none
+pub none_said : (o : Option ℕ) → is_some o ≡ false → o ≡ None
 unfolding is_some
-none_said none h = refl
-none_said (some value) h = absurd (false≢true (sym h))
+none_said None h = refl
+none_said (Some value) h = absurd (false≢true (sym h))
 
 module _ (voice : Voice) (body seek : List ℕ) (ready : Ready voice false body seek) (points : Points) (said : points ≡ points_said (entries_said false seek)) where
   abbrev items : List (Placed (Item Event))
@@ -111,7 +111,7 @@ module _ (voice : Voice) (body seek : List ℕ) (ready : Ready voice false body 
       (said_or (λ (value : ℕ). is_address items (length body) value ≡ true) (start_point entries) (start_holds _ _ entries holds) (head_there voice body ready.reads))
 
   module _ (stops : points.stops ≡ true) where
-    stopped : (value : ℕ) × (stop_point entries ≡ some value)
+    stopped : (value : ℕ) × (stop_point entries ≡ Some value)
     unfolding points_said
     stopped = some_said (stop_point entries) (sym (ap (λ (p : Points). p.stops) said) ∙ stops)
 

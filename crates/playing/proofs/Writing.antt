@@ -1,7 +1,7 @@
 -- THE ROWS of an order list, one section after the other: the invariant of `write_letters`'s loop, that what is still to be stored makes the
 -- whole, and what each turn and the end make of it.
-use Prim.Native.Nat.{ℕ, zero, suc, ◌+◌, ◌*◌, ◌<◌, ◌≤◌}
-use mathlib.Core.Bool.{true, false≢true}
+use Prim.Native.Nat.{ℕ, zero, suc, ◌+◌, ◌<◌, ◌≤◌}
+use mathlib.Core.Bool.{true}
 use mathlib.Core.List.{List, [], ◌∷◌, ◌++◌, map, map-append}
 use mathlib.Core.Path.{◌≡◌, refl, sym, ◌∙◌, ap, subst}
 use mir.Syntax.{w64}
@@ -10,6 +10,7 @@ use lib.ListN.{length, get_or, set, drop, replicate, length-map, length-set, len
 use lib.Seq.{drop-cons, drop-length, get_or-set_same, get_or-set_other, sets, length-sets}
 use native.Mathlib.Omega.{arith}
 use borrow.Author.Tests.{eqb-true, eqb-false}
+use Rattle.std.specs.Prelude.{Option, None, Some}
 use Rattle.model.specs.Words.{◌≡?◌}
 use Rattle.model.specs.Bytes.{◌!◌}
 use Rattle.model.specs.Item.{body_of, is_fine, items_of}
@@ -20,7 +21,7 @@ use Rattle.model.specs.declared.Event.{Event}
 use Rattle.model.specs.declared.Span.{Span}
 use Rattle.sections.specs.declared.Standing.{Standing}
 use Rattle.sections.specs.Spans.{span_rows, steps_of, words_of, Playable}
-use Rattle.sections.specs.Again.{nowhere, standing_at, StoredWhereKnown}
+use Rattle.sections.specs.Again.{standing_at, Stored, StoredWhereKnown}
 use Rattle.model.proofs.Tests.{by_test}
 use Rattle.model.proofs.Stores.{sets_append}
 use Rattle.sections.proofs.Stretches.{span_counts}
@@ -33,11 +34,17 @@ pub rows_many : (voice : Voice) (s : List ℕ) (before : ℕ) (span : Span) → 
 rows_many voice s before span reads playable =
     subst (λ (x : Span). length (span_rows (items_of voice s) x before) ≡ x.messages) (sym playable.is) (span_counts voice s reads playable.section before)
 
--- a table that is filled with its default
+-- a table that is filled with its default, and so with nothing known
 replicate_default : {A : Type 0} (n slot : ℕ) (value : A) → get_or (replicate n value) slot value ≡ value
 replicate_default zero slot value = refl
 replicate_default (suc n) zero value = refl
 replicate_default (suc n) (suc slot) value = replicate_default n slot value
+
+pub none_known : {A : Type 0} (n slot : ℕ) (value : A) → get_or (replicate n None) slot None ≡ Some value → ⊥
+none_known {A} n slot value is =
+    let none : ◌≡◌ {A = Option A} None (Some value) = sym (replicate_default n slot None) ∙ is in
+    let z : ◌≡◌ {A = ℕ} 0 1 = cc in
+    omega arith
 
 -- a column of rows is stored in two parts
 column_stored : (column : At Event → ℕ) (l m : List ℕ) (at many : ℕ) (first second : List (At Event)) → m ≡ sets l at (map column first) → length first ≡ many
@@ -50,13 +57,13 @@ column_stored column l m at many first second e long =
     ∙ ap (sets l at) (sym (map-append column first second))
 
 module _ (voice : Voice) (s : List ℕ) (spans : List Span) (letters : List ℕ) where
-  pub record Writing (l m out outs : List ℕ) (standings : List Standing) (at before i : ℕ) : Type 0 where
+  pub record Writing (l m out outs : List ℕ) (standings : List (Option Standing)) (at before i : ℕ) : Type 0 where
     pub bytes : (k : ℕ) → letters ! k < 256
     pub reads : is_fine (body_of voice s) ≡ true
     pub playable : AllPlayable (items_of voice s) (length s) spans letters
     pub rises : AllRise (items_of voice s) spans letters
     pub slots : length standings ≡ 256
-    pub known : (slot : ℕ) → StoredWhereKnown (items_of voice s) (span_at spans slot) (get_or standings slot nowhere) out outs at before
+    pub known : (slot : ℕ) → StoredWhereKnown (items_of voice s) (span_at spans slot) (get_or standings slot None) out outs at before
     pub listed : length letters ≤ 65536
     pub within : i ≤ length letters
     pub fits : at + messages_together spans (drop i letters) < 18446744073709551616
@@ -70,18 +77,18 @@ module _ (voice : Voice) (s : List ℕ) (spans : List Span) (letters : List ℕ)
     pub words : sets outs at (words_of (rows_together (items_of voice s) spans before (drop i letters)))
         ≡ sets m 0 (words_of (rows_together (items_of voice s) spans 0 letters))
 
-  pub write_starts : (l m : List ℕ) (standing : Standing) → standing ≡ nowhere → ((k : ℕ) → letters ! k < 256) → is_fine (body_of voice s) ≡ true
+  pub write_starts : (l m : List ℕ) → ((k : ℕ) → letters ! k < 256) → is_fine (body_of voice s) ≡ true
       → AllPlayable (items_of voice s) (length s) spans letters → AllRise (items_of voice s) spans letters
       → length letters ≤ 65536 → lasts_together spans letters ≤ 4611686018427387904 → messages_together spans letters ≤ length l
-      → messages_together spans letters ≤ length m → length l < 18446744073709551616 → Writing l m l m (replicate 256 standing) 0 0 0
-  write_starts l m standing none bytes reads playable rises listed early room rooms fits =
+      → messages_together spans letters ≤ length m → length l < 18446744073709551616 → Writing l m l m (replicate 256 None) 0 0 0
+  write_starts l m bytes reads playable rises listed early room rooms fits =
       record {
         bytes = bytes;
         reads = reads;
         playable = playable;
         rises = rises;
-        slots = length-replicate 256 standing;
-        known = λ slot flag. absurd (false≢true (sym (ap (λ (f : Standing). f.known) (ap (λ (f : Standing). get_or (replicate 256 f) slot nowhere) none ∙ replicate_default 256 slot nowhere)) ∙ flag));
+        slots = length-replicate {A = Option Standing} 256 None;
+        known = λ slot standing is. absurd (none_known 256 slot standing is);
         listed = listed;
         within = omega arith;
         fits = omega arith;
@@ -94,7 +101,7 @@ module _ (voice : Voice) (s : List ℕ) (spans : List Span) (letters : List ℕ)
         words = refl;
       }
 
-  module _ (l m out outs : List ℕ) (standings : List Standing) (at before i : ℕ) (w : Writing l m out outs standings at before i) where
+  module _ (l m out outs : List ℕ) (standings : List (Option Standing)) (at before i : ℕ) (w : Writing l m out outs standings at before i) where
     -- nothing is left to be stored
     none_left : length letters ≤ i → drop i letters ≡ []
     none_left past = let end : i ≡ length letters = omega (arith, w.within) in ap (λ (n : ℕ). drop n letters) end ∙ drop-length letters
@@ -106,18 +113,6 @@ module _ (voice : Voice) (s : List ℕ) (spans : List Span) (letters : List ℕ)
     pub write_words : length letters ≤ i → outs ≡ sets m 0 (words_of (rows_together (items_of voice s) spans 0 letters))
     unfolding rows_together words_of
     write_words past = ap (λ (x : List ℕ). sets outs at (words_of (rows_together (items_of voice s) spans before x))) (sym (none_left past)) ∙ w.words
-
-    pub write_slot : letters ! i < 256
-    write_slot = w.bytes i
-
-    pub write_slot_fits : Fits w64 (letters ! i)
-    write_slot_fits = record { fits = omega (arith, w.bytes i) }
-
-    pub write_offset_fits : Fits w64 (letters ! i * 40)
-    write_offset_fits = record { fits = omega (arith, w.bytes i) }
-
-    pub write_standing_fits : Fits w64 (letters ! i * 24)
-    write_standing_fits = record { fits = omega (arith, w.bytes i) }
 
     module _ (here : i < length letters) where
       -- the span of the letter at hand
@@ -141,7 +136,7 @@ module _ (voice : Voice) (s : List ℕ) (spans : List Span) (letters : List ℕ)
       pub write_early : before + (span_at spans (letters ! i)).lasts ≤ 4611686018427387904
       write_early = omega (arith, w.early, lasts_next)
 
-      pub write_known : StoredWhereKnown (items_of voice s) (span_at spans (letters ! i)) (get_or standings (letters ! i) nowhere) out outs at before
+      pub write_known : StoredWhereKnown (items_of voice s) (span_at spans (letters ! i)) (get_or standings (letters ! i) None) out outs at before
       write_known = w.known (letters ! i)
 
       pub write_room_steps : at + (span_at spans (letters ! i)).messages ≤ length out
@@ -155,9 +150,6 @@ module _ (voice : Voice) (s : List ℕ) (spans : List Span) (letters : List ℕ)
 
       pub write_before_fits : Fits w64 (before + (span_at spans (letters ! i)).lasts)
       write_before_fits = record { fits = omega (arith, w.early, lasts_next) }
-
-      pub write_nears : Fits w64 (i + 1)
-      write_nears = record { fits = omega (arith, w.listed) }
 
       abbrev here_rows : List (At Event)
       here_rows = span_rows (items_of voice s) span before
@@ -178,23 +170,25 @@ module _ (voice : Voice) (s : List ℕ) (spans : List Span) (letters : List ℕ)
       words_next = sets outs at (words_of here_rows)
 
       -- what is known of where a span's rows stand, one letter on
-      still_known : (slot : ℕ) → StoredWhereKnown (items_of voice s) (span_at spans slot) (get_or standings slot nowhere) steps_next words_next at_next before_next
+      still_known : (slot : ℕ) → StoredWhereKnown (items_of voice s) (span_at spans slot) (get_or standings slot None) steps_next words_next at_next before_next
       still_known slot =
-          stored_kept (items_of voice s) (span_at spans slot) out outs at before (get_or standings slot nowhere) (steps_of here_rows) (words_of here_rows)
+          stored_kept (items_of voice s) (span_at spans slot) out outs at before (get_or standings slot None) (steps_of here_rows) (words_of here_rows)
           at_next before_next (omega arith) (omega arith) (w.known slot)
 
-      now_known : StoredWhereKnown (items_of voice s) span (standing_at at before) steps_next words_next at_next before_next
-      now_known flag =
-          stored_new (items_of voice s) span out outs at before (rows_many voice s before span w.reads write_playable) write_room_steps write_room_words
-          (w.rises i here before)
+      now_known : StoredWhereKnown (items_of voice s) span (Some (standing_at at before)) steps_next words_next at_next before_next
+      now_known standing is =
+          let same : ◌≡◌ {A = Standing} (standing_at at before) standing = cc in
+          subst (λ (x : Standing). Stored (items_of voice s) span x steps_next words_next at_next before_next) same
+          (stored_new (items_of voice s) span out outs at before (rows_many voice s before span w.reads write_playable) write_room_steps write_room_words
+          (w.rises i here before))
 
-      known_next : (slot : ℕ) (standing : Standing) → standing ≡ standing_at at before
-          → StoredWhereKnown (items_of voice s) (span_at spans slot) (get_or (set standings (letters ! i) standing) slot nowhere) steps_next words_next at_next before_next
-      known_next slot standing r =
+      known_next : (slot : ℕ)
+          → StoredWhereKnown (items_of voice s) (span_at spans slot) (get_or (set standings (letters ! i) (Some (standing_at at before))) slot None) steps_next words_next at_next before_next
+      known_next slot =
           by_test (slot ≡? letters ! i)
           (λ t. let e = eqb-true slot (letters ! i) t in
-          rw (e, get_or-set_same standings (letters ! i) standing nowhere (omega (arith, w.slots, w.bytes i)), r) now_known)
-          (λ t. let e = eqb-false slot (letters ! i) t in rw (get_or-set_other standings (letters ! i) slot standing nowhere e) (still_known slot))
+          rw (e, get_or-set_same standings (letters ! i) (Some (standing_at at before)) None (omega (arith, w.slots, w.bytes i))) now_known)
+          (λ t. let e = eqb-false slot (letters ! i) t in rw (get_or-set_other standings (letters ! i) slot (Some (standing_at at before)) None e) (still_known slot))
 
       rows_next : rows_together (items_of voice s) spans before (drop i letters) ≡ here_rows ++ later_rows
       unfolding rows_together
@@ -202,10 +196,9 @@ module _ (voice : Voice) (s : List ℕ) (spans : List Span) (letters : List ℕ)
 
       pub write_turns : (m₁ m₂ : List ℕ) → m₁ ≡ sets out at (steps_of (span_rows (items_of voice s) (span_at spans (letters ! i)) before))
           → m₂ ≡ sets outs at (words_of (span_rows (items_of voice s) (span_at spans (letters ! i)) before))
-          → (standing : Standing) → standing ≡ standing_at at before
-          → Writing l m m₁ m₂ (set standings (letters ! i) standing) (at + (span_at spans (letters ! i)).messages) (before + (span_at spans (letters ! i)).lasts) (i + 1)
+          → Writing l m m₁ m₂ (set standings (letters ! i) (Some (standing_at at before))) (at + (span_at spans (letters ! i)).messages) (before + (span_at spans (letters ! i)).lasts) (i + 1)
       unfolding steps_of words_of
-      write_turns m₁ m₂ p q standing r =
+      write_turns m₁ m₂ p q =
           let many = rows_many voice s before span w.reads write_playable in
           let long₁ : length m₁ ≡ length out = ap length p ∙ length-sets out at (steps_of here_rows) in
           let long₂ : length m₂ ≡ length outs = ap length q ∙ length-sets outs at (words_of here_rows) in
@@ -214,8 +207,8 @@ module _ (voice : Voice) (s : List ℕ) (spans : List Span) (letters : List ℕ)
             reads = w.reads;
             playable = w.playable;
             rises = w.rises;
-            slots = length-set standings (letters ! i) standing ∙ w.slots;
-            known = λ slot. rw (p, q) (known_next slot standing r);
+            slots = length-set standings (letters ! i) (Some (standing_at at before)) ∙ w.slots;
+            known = λ slot. rw (p, q) (known_next slot);
             listed = w.listed;
             within = omega arith;
             fits = omega (arith, w.fits, messages_next);
@@ -234,20 +227,4 @@ module _ (voice : Voice) (s : List ℕ) (spans : List Span) (letters : List ℕ)
                 ∙ w.words;
           }
 
-pub ruleset writing = (
-  write_steps,
-  write_words,
-  write_slot,
-  write_slot_fits,
-  write_offset_fits,
-  write_standing_fits,
-  write_playable,
-  write_early,
-  write_known,
-  write_room_steps,
-  write_room_words,
-  write_at_fits,
-  write_before_fits,
-  write_nears,
-  write_turns,
-)
+pub ruleset writing = (write_steps, write_words, write_playable, write_early, write_known, write_room_steps, write_room_words, write_at_fits, write_before_fits, write_turns)

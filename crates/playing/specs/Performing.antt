@@ -1,8 +1,7 @@
 -- What the functions of this crate speak of beside the definitions of the model: the bodies of a track, the spans of its letters, and
 -- what a play order comes to.
-use Rattle.std.specs.Prelude.{ℕ, ◌+◌, ◌<◌, ◌≤◌, ◌≡◌, Bool, true, List, [], ◌∷◌, ◌++◌, length, take, get_or}
-use Rattle.std.proofs.Math.Option.{Option, none, some}
-use Rattle.model.specs.Words.{when◌then◌else◌, ◌<?◌, ◌≡?◌, through, is_some, Placed, Checked, Checked.fine, Checked.refused, passed, ◌>>=◌, ◌>>◌}
+use Rattle.std.specs.Prelude.{ℕ, ◌+◌, ◌<◌, ◌≤◌, ◌≡◌, Bool, true, List, [], ◌∷◌, ◌++◌, length, take, get_or, Option, None, Some, Ok, Err}
+use Rattle.model.specs.Words.{when◌then◌else◌, ◌<?◌, ◌≡?◌, through, is_some, Placed, Checked, passed, ◌>>=◌, ◌>>◌, refused}
 use Rattle.model.specs.Bytes.{◌!◌, part}
 use Rattle.model.specs.Item.{is_fine, found, body_of, items_of}
 use Rattle.model.specs.Seek.{Entry, seek_of, phrase_of}
@@ -21,8 +20,6 @@ use Rattle.model.specs.declared.FoundSpans.{FoundSpans}
 use Rattle.model.specs.declared.Total.{Total}
 use Rattle.model.specs.declared.Bodies.{Bodies}
 use Rattle.model.specs.declared.Extent.{Extent}
-use Rattle.model.specs.declared.OpenedTrack.{OpenedTrack}
-use Rattle.model.specs.declared.OpenedTrack.TheVariants as opened
 use Rattle.sections.specs.Spans.{Items, span_of, passage_of, span_rows, Playable, SpanRises}
 use Rattle.sections.specs.Taking.{AllBytes}
 
@@ -46,13 +43,13 @@ abbrev pub bytes_in : List ℕ → Extent → List ℕ
 bytes_in s extent = part s extent.place extent.size
 
 unfoldable pub track_in : Checked Track → Option Track
-track_in (fine track) = some track
-track_in (refused number place) = none
+track_in (Ok track) = Some track
+track_in (Err why) = None
 
 -- 16: the readable track that a row number names
 unfoldable pub track_named : Checked File → ℕ → Option Track
-track_named (fine file) row = track_at file row
-track_named (refused number place) row = none
+track_named (Ok file) row = track_at file row
+track_named (Err why) row = None
 
 -- THE BODIES of a track stand in the file and keep the rules.
 pub record Inside (s : List ℕ) (bodies : Bodies) : Type 0 where
@@ -69,11 +66,11 @@ pub record Open (s : List ℕ) (bodies : Bodies) (track : Track) : Type 0 where
   pub items : track.items ≡ items_of bodies.voice (bytes_in s bodies.sequence)
   pub entries : track.entries ≡ entries_said bodies.phrases (bytes_in s bodies.seek)
 
-abbrev pub Opens : List ℕ → Option Track → OpenedTrack → Type 0
-Opens s (some track) (opened.At bodies) = Open s bodies track
-Opens s none (opened.At bodies) = ⊥
-Opens s (some track) opened.Nowhere = ⊥
-Opens s none opened.Nowhere = Unit
+abbrev pub Opens : List ℕ → Option Track → Option Bodies → Type 0
+Opens s (Some track) (Some bodies) = Open s bodies track
+Opens s None (Some bodies) = ⊥
+Opens s (Some track) None = ⊥
+Opens s None None = Unit
 
 -- THE LETTERS of an order list
 
@@ -168,11 +165,11 @@ tune_together items spans letters = record { messages = rows_together items span
 
 -- PLAYED: 17 where there is no order, then 15, at the track's header
 unfoldable pub fitted : ℕ → ℕ → Tune Event → Checked (Tune Event)
-fitted header room tune = when room <? length tune.messages then refused 15 header else fine tune
+fitted header room tune = when room <? length tune.messages then refused 15 header else Ok tune
 
 unfoldable pub played : ℕ → ℕ → Items → Option (List Section) → Checked (Tune Event)
-played header room items none = refused 17 header
-played header room items (some sections) = fitted header room (tune_of is_message items sections)
+played header room items None = refused 17 header
+played header room items (Some sections) = fitted header room (tune_of is_message items sections)
 
 -- what a track plays, from its bodies
 unfoldable pub heard : Voice → Bool → ℕ → ℕ → List ℕ → List ℕ → Checked (Tune Event)
@@ -190,4 +187,4 @@ unfoldable pub row_played : ℕ → Checked File → ℕ → Checked (Tune Event
 row_played room outcome row = do
   performance ← row_performed outcome row
   when room <? length performance.tune.messages then refused 15 performance.track.header else passed
-  fine performance.tune
+  Ok performance.tune

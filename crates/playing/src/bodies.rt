@@ -6,7 +6,7 @@ ghost use Rattle.model.specs.File.{contents_of};
 ghost use Rattle.reading.specs.Stages.{placed};
 ghost use Rattle.playing.specs.Performing.{bytes_in, Opens, track_in, track_named};
 
-use model::{Bodies, Extent, FoundChunk, FoundTrack, OpenedTrack, Part, Voice};
+use model::{Bodies, Extent, Part, Voice};
 
 // The bytes of an extent, and no more.
 pub fn bytes_in<'a>(s: &'a [u8], extent: Extent) -> &'a [u8]
@@ -19,56 +19,38 @@ pub fn bytes_in<'a>(s: &'a [u8], extent: Extent) -> &'a [u8]
 }
 
 // The track whose header is at a place and whose body has a size.
-fn open_at(voice: Voice, s: &[u8], place: usize, size: usize) -> OpenedTrack
+fn open_at(voice: Voice, s: &[u8], place: usize, size: usize) -> Option<Bodies>
     requires size_in_bounds { (place + 8 + size ≤ length s.now) × (length s.now ≤ 65536) }
     requires size_value { is_fine (track_of s.now voice (placed s.now place size)) ≡ true }
     ensures { Opens s.now (track_in (track_of s.now voice (placed s.now place size))) result }
 {
     let start = place + 8 + 6;
     let end = place + 8 + size;
-    let phrases = s[place + 8 + 1] == 1;
-    let FoundChunk::At {
-        place: sequence_header,
-        size: sequence_size,
-    } = tracks::find_part(Part::Sequence, voice, s, start, end)
-    else {
-        return OpenedTrack::Nowhere;
+    let sequence = tracks::find_part(Part::Sequence, voice, s, start, end)?;
+    let seek = match tracks::find_part(Part::Seek, voice, s, start, end) {
+        Some(chunk) => Extent {
+            place: chunk.place + 8,
+            size: chunk.size,
+        },
+        None => Extent { place: 0, size: 0 },
     };
-    let sequence = Extent {
-        place: sequence_header + 8,
-        size: sequence_size,
-    };
-    match tracks::find_part(Part::Seek, voice, s, start, end) {
-        FoundChunk::At {
-            place: seek_header,
-            size: seek_size,
-        } => OpenedTrack::At(Bodies {
-            header: place,
-            voice,
-            phrases,
-            sequence,
-            seek: Extent {
-                place: seek_header + 8,
-                size: seek_size,
-            },
-        }),
-        FoundChunk::Nowhere => OpenedTrack::At(Bodies {
-            header: place,
-            voice,
-            phrases,
-            sequence,
-            seek: Extent { place: 0, size: 0 },
-        }),
-    }
+    Some(Bodies {
+        header: place,
+        voice,
+        phrases: s[place + 8 + 1] == 1,
+        sequence: Extent {
+            place: sequence.place + 8,
+            size: sequence.size,
+        },
+        seek,
+    })
 }
 
-pub fn open_track(s: &[u8], row: usize) -> OpenedTrack
+pub fn open_track(s: &[u8], row: usize) -> Option<Bodies>
     requires s_len_bound { length s.now ≤ 65536 }
     requires s_value { is_fine (contents_of s.now) ≡ true }
     ensures { Opens s.now (track_named (contents_of s.now) row) result }
 {
-    match reading::find_track(s, row) {
-        FoundTrack::At { voice, place, size } => open_at(voice, s, place, size),
-        FoundTrack::Nowhere => OpenedTrack::Nowhere,
-    }
+    let track = reading::find_track(s, row)?;
+    open_at(track.voice, s, track.place, track.size)
 }

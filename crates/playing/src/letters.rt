@@ -10,7 +10,8 @@ ghost use Rattle.sections.specs.Taking.{AllBytes};
 ghost use Rattle.playing.specs.Performing.{Ready, entries_said, letter_passage, no_span, Named, Found};
 ghost use Rattle.playing.specs.Performing.{AllPlayable, AllRise, AllFew, AllShort, messages_together, lasts_together, rows_together, total_of};
 
-use model::{FoundPhrase, FoundSpans, Passage, Span, Total, Voice};
+use model::{FoundSpans, Passage, Span, Total, Voice};
+use sections::Standing;
 
 fn no_span() -> Span
     ensures { result ≡ no_span }
@@ -31,10 +32,13 @@ pub fn passage_of_letter(voice: Voice, body: &[u8], seek: &[u8], letter: u8) -> 
     ensures { result ≡ letter_passage (items_of voice body.now) (length body.now) (entries_said true seek.now) letter }
 {
     match seek::find_phrase(true, seek, letter) {
-        FoundPhrase::Between { start, stop } => {
-            sections::span_between(voice, body, start as usize, stop as usize)
-        }
-        FoundPhrase::Nowhere => Passage {
+        Some(phrase) => sections::span_between(
+            voice,
+            body,
+            phrase.start as usize,
+            phrase.stop as usize,
+        ),
+        None => Passage {
             span: no_span(),
             stops: false,
         },
@@ -51,12 +55,10 @@ pub fn find_spans(voice: Voice, body: &[u8], seek: &[u8], letters: &[u8]) -> Fou
 {
     let mut spans = [no_span(); 256];
     let mut known = [false; 256];
-    let mut i: usize = 0;
-    while i < letters.len() {
-        let letter = letters[i];
-        let slot = letter as usize;
+    for (i, letter) in letters.iter().enumerate() {
+        let slot = *letter as usize;
         if !known[slot] {
-            let passage = passage_of_letter(voice, body, seek, letter);
+            let passage = passage_of_letter(voice, body, seek, *letter);
             let span = passage.span;
             spans[slot] = span;
             known[slot] = true;
@@ -67,9 +69,11 @@ pub fn find_spans(voice: Voice, body: &[u8], seek: &[u8], letters: &[u8]) -> Fou
                 };
             }
         }
-        i += 1;
     }
-    FoundSpans { spans, letters: i }
+    FoundSpans {
+        spans,
+        letters: letters.len(),
+    }
 }
 
 // The first so many letters.
@@ -88,16 +92,13 @@ pub fn add_spans(spans: [Span; 256], letters: &[u8]) -> Total
     requires all_short { AllShort spans letters.now }
     ensures { result ≡ total_of spans letters.now }
 {
-    let mut count: usize = 0;
-    let mut end: u64 = 0;
-    let mut i: usize = 0;
-    while i < letters.len() {
-        let span = spans[letters[i] as usize];
-        count += span.messages;
-        end += span.lasts;
-        i += 1;
+    let mut total = Total { count: 0, end: 0 };
+    for letter in letters {
+        let span = spans[*letter as usize];
+        total.count += span.messages;
+        total.end += span.lasts;
     }
-    Total { count, end }
+    total
 }
 
 // The rows of all letters of a list, one section after the other. A section that is played again is copied from where it was written last.
@@ -120,18 +121,15 @@ pub fn write_letters(
     ensures steps_after { steps.new ≡ sets steps.old 0 (steps_of (rows_together (items_of voice body.now) spans 0 letters.now)) }
     ensures words_after { words.new ≡ sets words.old 0 (words_of (rows_together (items_of voice body.now) spans 0 letters.now)) }
 {
-    let mut standings = [sections::nowhere(); 256];
+    let mut standings = [None; 256];
     let mut at: usize = 0;
     let mut before: u64 = 0;
-    let mut i: usize = 0;
-    while i < letters.len() {
-        let slot = letters[i] as usize;
+    for letter in letters {
+        let slot = *letter as usize;
         let span = spans[slot];
-        let standing = standings[slot];
-        sections::write_section(voice, body, span, standing, before, steps, words, at);
-        standings[slot] = sections::standing_at(at, before);
+        sections::write_section(voice, body, span, standings[slot], before, steps, words, at);
+        standings[slot] = Some(Standing { row: at, before });
         at += span.messages;
         before += span.lasts;
-        i += 1;
     }
 }

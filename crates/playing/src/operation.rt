@@ -9,9 +9,14 @@ ghost use Rattle.playing.specs.Performing.{bytes_in, Inside, heard, row_played};
 use super::bodies::{bytes_in, open_track};
 use super::phrases::play_phrases;
 use super::stream::play_stream;
-use model::{Bodies, Counted, OpenedTrack, PlayAnswer};
+use model::{Bodies, PlayAnswer, Refusal, refused};
 
-fn play_bodies(s: &[u8], bodies: Bodies, steps: &mut [u64], words: &mut [u32]) -> PlayAnswer
+fn play_bodies(
+    s: &[u8],
+    bodies: Bodies,
+    steps: &mut [u64],
+    words: &mut [u32],
+) -> Result<PlayAnswer, Refusal>
     requires s_len_bound { length s.now ≤ 65536 }
     requires inside { Inside s.now bodies }
     ensures value { result ≡ play_answer (heard bodies.voice bodies.phrases bodies.header (min (length steps.old) (length words.old)) (bytes_in s.now bodies.sequence) (bytes_in s.now bodies.seek)) }
@@ -30,7 +35,12 @@ fn play_bodies(s: &[u8], bodies: Bodies, steps: &mut [u64], words: &mut [u32]) -
     play_stream(voice, header, body, seek, steps, words)
 }
 
-fn play_row(s: &[u8], row: usize, steps: &mut [u64], words: &mut [u32]) -> PlayAnswer
+fn play_row(
+    s: &[u8],
+    row: usize,
+    steps: &mut [u64],
+    words: &mut [u32],
+) -> Result<PlayAnswer, Refusal>
     requires s_len_bound { length s.now ≤ 65536 }
     requires s_value { is_fine (contents_of s.now) ≡ true }
     ensures value { result ≡ play_answer (row_played (min (length steps.old) (length words.old)) (contents_of s.now) row) }
@@ -38,42 +48,42 @@ fn play_row(s: &[u8], row: usize, steps: &mut [u64], words: &mut [u32]) -> PlayA
     ensures words_after { words.new ≡ words_table words.old (row_played (min (length steps.old) (length words.old)) (contents_of s.now) row) }
 {
     match open_track(s, row) {
-        OpenedTrack::At(bodies) => play_bodies(s, bodies, steps, words),
-        OpenedTrack::Nowhere => PlayAnswer::Refused {
-            number: 16,
-            place: 0,
-        },
+        Some(bodies) => play_bodies(s, bodies, steps, words),
+        None => refused(16, 0),
     }
 }
 
-fn play_stated(s: &[u8], row: usize, steps: &mut [u64], words: &mut [u32]) -> PlayAnswer
+fn play_stated(
+    s: &[u8],
+    row: usize,
+    steps: &mut [u64],
+    words: &mut [u32],
+) -> Result<PlayAnswer, Refusal>
     requires { length s.now ≤ 65536 }
     ensures value { result ≡ play_answer (row_played (min (length steps.old) (length words.old)) (contents_of s.now) row) }
     ensures steps_after { steps.new ≡ steps_table steps.old (row_played (min (length steps.old) (length words.old)) (contents_of s.now) row) }
     ensures words_after { words.new ≡ words_table words.old (row_played (min (length steps.old) (length words.old)) (contents_of s.now) row) }
 {
-    match reading::check_file(s) {
-        Counted::Refused { number, place } => PlayAnswer::Refused { number, place },
-        Counted::Rows { count: _ } => play_row(s, row, steps, words),
-    }
+    reading::check_file(s)?;
+    play_row(s, row, steps, words)
 }
 
-pub fn play(buffer: &[u8], n: usize, row: usize, steps: &mut [u64], words: &mut [u32]) -> PlayAnswer
+pub fn play(
+    buffer: &[u8],
+    n: usize,
+    row: usize,
+    steps: &mut [u64],
+    words: &mut [u32],
+) -> Result<PlayAnswer, Refusal>
     ensures value { result ≡ play_answer (play_of buffer.now n row (min (length steps.old) (length words.old))) }
     ensures steps_after { steps.new ≡ steps_table steps.old (play_of buffer.now n row (min (length steps.old) (length words.old))) }
     ensures words_after { words.new ≡ words_table words.old (play_of buffer.now n row (min (length steps.old) (length words.old))) }
 {
     if buffer.len() < n {
-        return PlayAnswer::Refused {
-            number: 1,
-            place: 0,
-        };
+        return refused(1, 0);
     }
     if 65536 < n {
-        return PlayAnswer::Refused {
-            number: 1,
-            place: 0,
-        };
+        return refused(1, 0);
     }
     play_stated(&buffer[..n], row, steps, words)
 }

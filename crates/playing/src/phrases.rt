@@ -1,6 +1,6 @@
 // Phrases in the order of their list.
 ghost use Rattle.std.specs.Prelude.{◌≡◌, true, map, ◌+◌, ◌-◌, ◌≤◌, min, length};
-ghost use Rattle.std.proofs.Math.Option.{some};
+ghost use Rattle.std.specs.Prelude.{Some};
 ghost use Rattle.model.specs.Bytes.{part};
 ghost use Rattle.model.specs.Item.{is_fine, body_of, items_of};
 ghost use Rattle.model.specs.Order.{order_of};
@@ -8,8 +8,8 @@ ghost use Rattle.model.specs.Answer.{play_answer, steps_table, words_table};
 ghost use Rattle.playing.specs.Performing.{entries_said, Ready, Listed, last_position, letter_section, Named, Heard, tune_together, fitted, heard};
 
 use super::letters::{add_spans, find_spans, letters_heard, write_letters};
-use super::stream::{points_of, shorter};
-use model::{PlayAnswer, Points, Span, Voice};
+use super::stream::points_of;
+use model::{PlayAnswer, Points, Refusal, Span, Voice, refused};
 
 fn last_position(points: Points) -> usize
     ensures { result ≡ last_position points }
@@ -39,7 +39,7 @@ fn play_spans(
     letters: &[u8],
     steps: &mut [u64],
     words: &mut [u32],
-) -> PlayAnswer
+) -> Result<PlayAnswer, Refusal>
     requires body_len_bound { length body.now ≤ 65536 }
     requires body_value { is_fine (body_of voice body.now) ≡ true }
     requires heard { Heard (items_of voice body.now) (length body.now) spans letters.now }
@@ -48,17 +48,14 @@ fn play_spans(
     ensures words_after { words.new ≡ words_table words.old (fitted header (min (length steps.old) (length words.old)) (tune_together (items_of voice body.now) spans letters.now)) }
 {
     let total = add_spans(spans, letters);
-    if shorter(steps, words) < total.count {
-        return PlayAnswer::Refused {
-            number: 15,
-            place: header,
-        };
+    if steps.len().min(words.len()) < total.count {
+        return refused(15, header);
     }
     write_letters(voice, body, spans, letters, steps, words);
-    PlayAnswer::Rows {
+    Ok(PlayAnswer {
         count: total.count,
         end: total.end,
-    }
+    })
 }
 
 // The letters of an order, up to the one in whose section playing stops.
@@ -70,11 +67,11 @@ fn play_letters(
     letters: &[u8],
     steps: &mut [u64],
     words: &mut [u32],
-) -> PlayAnswer
+) -> Result<PlayAnswer, Refusal>
     requires ready { Ready voice true body.now seek.now }
     requires letters_len_bound { length letters.now ≤ 65536 }
     requires named { Named (entries_said true seek.now) letters.now }
-    requires seek_value { order_of true (items_of voice body.now) (entries_said true seek.now) ≡ some (map (letter_section (items_of voice body.now) (entries_said true seek.now)) letters.now) }
+    requires seek_value { order_of true (items_of voice body.now) (entries_said true seek.now) ≡ Some (map (letter_section (items_of voice body.now) (entries_said true seek.now)) letters.now) }
     ensures value { result ≡ play_answer (heard voice true header (min (length steps.old) (length words.old)) body.now seek.now) }
     ensures steps_after { steps.new ≡ steps_table steps.old (heard voice true header (min (length steps.old) (length words.old)) body.now seek.now) }
     ensures words_after { words.new ≡ words_table words.old (heard voice true header (min (length steps.old) (length words.old)) body.now seek.now) }
@@ -99,7 +96,7 @@ pub fn play_phrases(
     seek: &[u8],
     steps: &mut [u64],
     words: &mut [u32],
-) -> PlayAnswer
+) -> Result<PlayAnswer, Refusal>
     requires { Ready voice true body.now seek.now }
     ensures value { result ≡ play_answer (heard voice true header (min (length steps.old) (length words.old)) body.now seek.now) }
     ensures steps_after { steps.new ≡ steps_table steps.old (heard voice true header (min (length steps.old) (length words.old)) body.now seek.now) }
@@ -107,10 +104,7 @@ pub fn play_phrases(
 {
     let points = points_of(true, seek);
     if !points.ordered {
-        return PlayAnswer::Refused {
-            number: 17,
-            place: header,
-        };
+        return refused(17, header);
     }
     play_letters(
         voice,

@@ -8,7 +8,7 @@ ghost use Rattle.model.specs.Answer.{play_answer, steps_table, words_table};
 ghost use Rattle.sections.specs.Spans.{span_of, Small};
 ghost use Rattle.playing.specs.Performing.{entries_said, Formed, Ready, heard};
 
-use model::{PlayAnswer, Points, Span, Voice};
+use model::{PlayAnswer, Points, Refusal, Span, Voice, refused};
 
 // What the seek body says of points and order list; a track without one has none.
 pub fn points_of(phrases: bool, seek: &[u8]) -> Points
@@ -16,7 +16,7 @@ pub fn points_of(phrases: bool, seek: &[u8]) -> Points
     requires formed { Formed phrases seek.now }
     ensures { result ≡ points_said (entries_said phrases seek.now) }
 {
-    if seek.len() == 0 {
+    if seek.is_empty() {
         return Points {
             starts: false,
             start: 0,
@@ -48,15 +48,6 @@ pub fn span_of_stream(voice: Voice, body: &[u8], seek: &[u8]) -> Span
     sections::span_from(voice, body, points.start as usize)
 }
 
-pub fn shorter(steps: &[u64], words: &[u32]) -> usize
-    ensures { result ≡ min (length steps.now) (length words.now) }
-{
-    if steps.len() < words.len() {
-        return steps.len();
-    }
-    words.len()
-}
-
 // The section is counted before it is written.
 fn play_counted(
     voice: Voice,
@@ -65,24 +56,21 @@ fn play_counted(
     seek: &[u8],
     steps: &mut [u64],
     words: &mut [u32],
-) -> PlayAnswer
+) -> Result<PlayAnswer, Refusal>
     requires { Ready voice false body.now seek.now }
     ensures value { result ≡ play_answer (heard voice false header (min (length steps.old) (length words.old)) body.now seek.now) }
     ensures steps_after { steps.new ≡ steps_table steps.old (heard voice false header (min (length steps.old) (length words.old)) body.now seek.now) }
     ensures words_after { words.new ≡ words_table words.old (heard voice false header (min (length steps.old) (length words.old)) body.now seek.now) }
 {
     let span = span_of_stream(voice, body, seek);
-    if shorter(steps, words) < span.messages {
-        return PlayAnswer::Refused {
-            number: 15,
-            place: header,
-        };
+    if steps.len().min(words.len()) < span.messages {
+        return refused(15, header);
     }
     sections::write_span(voice, body, span, 0, steps, words, 0);
-    PlayAnswer::Rows {
+    Ok(PlayAnswer {
         count: span.messages,
         end: span.lasts,
-    }
+    })
 }
 
 // In tables with room for a message in every three bytes of the body: nothing is counted first where there is no stop point.
@@ -93,7 +81,7 @@ fn play_roomy(
     seek: &[u8],
     steps: &mut [u64],
     words: &mut [u32],
-) -> PlayAnswer
+) -> Result<PlayAnswer, Refusal>
     requires ready { Ready voice false body.now seek.now }
     requires body_in_bounds { length body.now / 3 ≤ length steps.old }
     requires body_in_bounds_2 { length body.now / 3 ≤ length words.old }
@@ -106,10 +94,10 @@ fn play_roomy(
         return play_counted(voice, header, body, seek, steps, words);
     }
     let span = sections::write_from(voice, body, points.start as usize, steps, words);
-    PlayAnswer::Rows {
+    Ok(PlayAnswer {
         count: span.messages,
         end: span.lasts,
-    }
+    })
 }
 
 pub fn play_stream(
@@ -119,13 +107,13 @@ pub fn play_stream(
     seek: &[u8],
     steps: &mut [u64],
     words: &mut [u32],
-) -> PlayAnswer
+) -> Result<PlayAnswer, Refusal>
     requires { Ready voice false body.now seek.now }
     ensures value { result ≡ play_answer (heard voice false header (min (length steps.old) (length words.old)) body.now seek.now) }
     ensures steps_after { steps.new ≡ steps_table steps.old (heard voice false header (min (length steps.old) (length words.old)) body.now seek.now) }
     ensures words_after { words.new ≡ words_table words.old (heard voice false header (min (length steps.old) (length words.old)) body.now seek.now) }
 {
-    if shorter(steps, words) < body.len() / 3 {
+    if steps.len().min(words.len()) < body.len() / 3 {
         return play_counted(voice, header, body, seek, steps, words);
     }
     play_roomy(voice, header, body, seek, steps, words)

@@ -1,66 +1,110 @@
 // The head of a case, and its buffer.
-use super::places::number_4_in;
+ghost use Rattle.std.specs.Prelude.{◌≤◌};
 
-const LARGEST: u32 = 70000;
+use numbers::number_at;
+use std::fmt;
 
-const LARGEST_DESCRIPTION: u32 = 300000;
+// A case's room, its buffer, and the buffer of a case that describes a file or a body, are no larger.
+pub const ROOM: usize = 70000;
 
-// The numbers of a case's head, of which so many bytes were there.
+const BUFFER: u32 = 70000;
+
+pub const DESCRIPTION: usize = 300000;
+
+// Why no case is answered any more.
+#[derive(Drop)]
+pub enum Stopped {
+    BadCase,
+    Unwritten,
+}
+
+impl From<fmt::Error> for Stopped {
+    fn from(_: fmt::Error) -> Stopped {
+        Stopped::Unwritten
+    }
+}
+
+#[derive(Clone, Copy)]
+pub enum Operation {
+    Read,
+    Play,
+    Flatten,
+    List,
+    Pitch,
+    WriteFile,
+    WriteBody,
+    Items,
+    Entries,
+}
+
+impl Operation {
+    fn of(letter: u8) -> Option<Operation> {
+        match letter {
+            b'r' => Some(Operation::Read),
+            b'p' => Some(Operation::Play),
+            b'f' => Some(Operation::Flatten),
+            b'l' => Some(Operation::List),
+            b't' => Some(Operation::Pitch),
+            b'w' => Some(Operation::WriteFile),
+            b'b' => Some(Operation::WriteBody),
+            b'm' => Some(Operation::Items),
+            b's' => Some(Operation::Entries),
+            _ => None,
+        }
+    }
+
+    // How many bytes its buffer may have.
+    fn largest_buffer(self) -> u32
+        ensures { result ≤ 300000 }
+    {
+        match self {
+            Operation::WriteFile | Operation::WriteBody => DESCRIPTION as u32,
+            _ => BUFFER,
+        }
+    }
+}
+
+// A case within bounds: so many bytes of the buffer are its own.
 #[derive(Clone, Copy)]
 pub struct Case {
-    pub bytes: usize,
-    pub operation: u8,
-    pub stated: u32,
-    pub row: u32,
-    pub room: u32,
-    pub size: u32,
+    pub operation: Operation,
+    pub stated: usize,
+    pub row: usize,
+    pub room: usize,
+    pub size: usize,
+    ghost room_within: { room ≤ 70000 },
+    ghost size_within: { size ≤ 300000 },
 }
 
-pub fn next_case() -> Case {
+fn case_of(head: &[u8; 17]) -> Option<Case> {
+    let operation = Operation::of(head[0])?;
+    let room = number_at::<4>(head, 9) as usize;
+    let size = number_at::<4>(head, 13);
+    if ROOM < room || operation.largest_buffer() < size {
+        return None;
+    }
+    Some(Case {
+        operation,
+        stated: number_at::<4>(head, 1) as usize,
+        row: number_at::<4>(head, 5) as usize,
+        room,
+        size: size as usize,
+    })
+}
+
+// The next case, whose buffer is read; none after the last.
+pub fn next_case(buffer: &mut [u8; DESCRIPTION]) -> Result<Option<Case>, Stopped> {
     let mut head = [0u8; 17];
     let bytes = io::read_full(0, &mut head);
-    Case {
-        bytes,
-        operation: head[0],
-        stated: number_4_in(&head, 1),
-        row: number_4_in(&head, 5),
-        room: number_4_in(&head, 9),
-        size: number_4_in(&head, 13),
+    if bytes == 0 {
+        return Ok(None);
     }
-}
-
-// How many bytes the buffer of an operation may have.
-fn largest_buffer(operation: u8) -> u32 {
-    match operation {
-        b'w' | b'b' => LARGEST_DESCRIPTION,
-        _ => LARGEST,
+    if bytes < 17 {
+        return Err(Stopped::BadCase);
     }
-}
-
-fn is_known(operation: u8) -> bool {
-    match operation {
-        b'r' | b'p' | b'f' | b'l' | b't' | b'w' | b'b' | b'm' | b's' => true,
-        _ => false,
+    let case = case_of(&head).ok_or(Stopped::BadCase)?;
+    if io::read_full(0, &mut buffer[..case.size]) < case.size {
+        return Err(Stopped::BadCase);
     }
-}
-
-// Whether the case is of an operation that is answered, within bounds and whole; its buffer is read.
-pub fn is_good(case: Case, buffer: &mut [u8]) -> bool {
-    if case.bytes < 17 {
-        return false;
-    }
-    if !is_known(case.operation) {
-        return false;
-    }
-    if LARGEST < case.room {
-        return false;
-    }
-    if largest_buffer(case.operation) < case.size {
-        return false;
-    }
-    let size = case.size as usize;
-    if buffer.len() < size {
-        return false;
-    }
-    io::read_full(0, &mut buffer[..size]) == size
+    Ok(Some(case))
 }

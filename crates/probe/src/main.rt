@@ -6,11 +6,11 @@
 #![tactic(auto)]
 
 mod cases;
+mod cursor;
 mod descriptions;
-mod lending;
+mod kept;
 mod listings;
 mod messages;
-mod places;
 mod plain_forms;
 mod rooms;
 mod rows;
@@ -19,171 +19,92 @@ mod tables;
 mod track_items;
 mod written;
 
-use cases::{Case, is_good, next_case};
-use descriptions::{Laid, cut, lay_body, lay_file};
-use lending::{
-    lend_to_entries, lend_to_flatten, lend_to_items, lend_to_list, lend_to_play, lend_to_read,
-    lend_to_write, lend_to_write_body,
-};
+use cases::{Case, DESCRIPTION, Operation, ROOM, Stopped, next_case};
+use kept::{put_kept, put_refused};
+use listings::answer_list;
+use messages::answer_play;
 use model::Pitch;
-use places::CUT;
-use text::{flush, put, put_byte, put_pitch, put_refusal};
+use plain_forms::answer_flatten;
+use rows::answer_read;
+use seek_entries::answer_entries;
+use std::fmt;
+use std::fmt::Write;
+use text::Page;
+use track_items::answer_items;
+use written::{answer_write, answer_write_body};
 
-fn answer_pitch(page: &mut [u8], used: usize, byte: u32, shift: u32) -> usize {
-    match pitch::pitch_of((byte % 256) as u8, (shift % 256) as u8) {
-        Pitch::Semitones { above } => {
-            let used = put(page, used, b"pitch ");
-            let used = put_pitch(page, used, above);
-            put_byte(page, used, b'\n')
+// Four numbers for each row of the largest room.
+const NUMBERS: usize = 280000;
+
+fn answer_pitch(page: &mut Page, case: Case) -> fmt::Result {
+    match pitch::pitch_of((case.stated % 256) as u8, (case.row % 256) as u8) {
+        Ok(Pitch { above }) => {
+            writeln!(page, "pitch {above}")?;
+            put_kept(page, true)
         }
-        Pitch::Refused { number, place } => put_refusal(page, used, number, place),
+        Err(why) => put_refused(page, why, true),
     }
 }
 
-// What a case's description is laid out to, `CUT` where it is cut; of an operation without one nothing is laid out.
-fn lay_out(case: Case, buffer: &[u8], table: &mut [u32], given: &mut [u8]) -> Laid {
-    let size = case.size as usize;
-    if buffer.len() < size {
-        return cut();
-    }
-    if case.operation == b'w' {
-        return lay_file(&buffer[..size], table, given);
-    }
-    if case.operation == b'b' {
-        return lay_body(&buffer[..size], table, given);
-    }
-    Laid {
-        at: 0,
-        numbers: 0,
-        bytes: 0,
-    }
-}
-
-// Reads the buffer of a case and lays out what it describes; `CUT` for a bad case.
-fn prepare(case: Case, buffer: &mut [u8], table: &mut [u32], given: &mut [u8]) -> Laid {
-    if !is_good(case, buffer) {
-        return cut();
-    }
-    lay_out(case, buffer, table, given)
-}
-
-// The answer to a good case of an operation on files.
-fn answer_on_file(
-    page: &mut [u8],
-    used: usize,
-    case: Case,
-    buffer: &[u8],
-    table: &mut [u32],
-    steps: &mut [u64],
-    bytes: &mut [u8],
-) -> usize {
-    if case.operation == b'r' {
-        return lend_to_read(page, used, case, buffer, table);
-    }
-    if case.operation == b'p' {
-        return lend_to_play(page, used, case, buffer, table, steps);
-    }
-    if case.operation == b'f' {
-        return lend_to_flatten(page, used, case, buffer, bytes);
-    }
-    if case.operation == b'l' {
-        return lend_to_list(page, used, case, buffer);
-    }
-    let used = answer_pitch(page, used, case.stated, case.row);
-    put(page, used, b"-- kept\n")
-}
-
-// The answer to a good case.
+// To an operation a case lends of each table as much as it states.
 fn answer(
-    page: &mut [u8],
-    used: usize,
+    page: &mut Page,
     case: Case,
-    laid: Laid,
     buffer: &[u8],
-    table: &mut [u32],
-    steps: &mut [u64],
-    bytes: &mut [u8],
-    given: &mut [u8],
-) -> usize {
-    if case.operation == b'w' {
-        return lend_to_write(page, used, case, laid, table, given, bytes);
+    table: &mut [u32; NUMBERS],
+    steps: &mut [u64; ROOM],
+    bytes: &mut [u8; ROOM],
+    given: &mut [u8; DESCRIPTION],
+) -> Result<(), Stopped> {
+    let room = case.room;
+    let bytes = &mut bytes[..room];
+    match case.operation {
+        Operation::Read => answer_read(page, case, buffer, &mut table[..4 * room])?,
+        Operation::Play => {
+            answer_play(page, case, buffer, &mut steps[..room], &mut table[..room])?
+        }
+        Operation::Flatten => answer_flatten(page, case, buffer, bytes)?,
+        Operation::List => answer_list(page, buffer)?,
+        Operation::Pitch => answer_pitch(page, case)?,
+        Operation::WriteFile => answer_write(page, buffer, table, given, bytes)?,
+        Operation::WriteBody => answer_write_body(page, buffer, table, given, bytes)?,
+        Operation::Items => answer_items(page, case, buffer, &mut table[..2 * room])?,
+        Operation::Entries => answer_entries(
+            page,
+            case,
+            buffer,
+            &mut table[..4 * room],
+            &mut given[..65536],
+        )?,
     }
-    if case.operation == b'b' {
-        return lend_to_write_body(page, used, case, laid, buffer, table, given, bytes);
-    }
-    if case.operation == b'm' {
-        return lend_to_items(page, used, case, buffer, table);
-    }
-    if case.operation == b's' {
-        return lend_to_entries(page, used, case, buffer, table, given);
-    }
-    answer_on_file(page, used, case, buffer, table, steps, bytes)
-}
-
-// How much of the page is used after a turn, and whether that was the last.
-#[derive(Clone, Copy)]
-struct Turn {
-    used: usize,
-    last: bool,
-}
-
-// The answer to the next case. There is none after the last case, nor after a bad one.
-fn answer_next(
-    page: &mut [u8],
-    used: usize,
-    buffer: &mut [u8],
-    table: &mut [u32],
-    steps: &mut [u64],
-    bytes: &mut [u8],
-    given: &mut [u8],
-) -> Turn {
-    let case = next_case();
-    if case.bytes == 0 {
-        return Turn { used, last: true };
-    }
-    let laid = prepare(case, buffer, table, given);
-    if laid.at == CUT {
-        return Turn {
-            used: put(page, used, b"bad case\n"),
-            last: true,
-        };
-    }
-    Turn {
-        used: answer(page, used, case, laid, buffer, table, steps, bytes, given),
-        last: false,
-    }
+    Ok(())
 }
 
 fn run(
-    page: &mut [u8],
-    buffer: &mut [u8],
-    table: &mut [u32],
-    steps: &mut [u64],
-    bytes: &mut [u8],
-    given: &mut [u8],
-) {
-    let mut used: usize = 0;
-    let mut turns: u32 = 0;
-    while turns < 1_000_000_000 {
-        turns += 1;
-        let turn = answer_next(page, used, buffer, table, steps, bytes, given);
-        used = turn.used;
-        if turn.last {
-            flush(page, used);
-            return;
-        }
+    page: &mut Page,
+    buffer: &mut [u8; DESCRIPTION],
+    table: &mut [u32; NUMBERS],
+    steps: &mut [u64; ROOM],
+    bytes: &mut [u8; ROOM],
+    given: &mut [u8; DESCRIPTION],
+) -> Result<(), Stopped> {
+    for _ in 0..1_000_000_000u32 {
+        let Some(case) = next_case(buffer)? else {
+            return Ok(());
+        };
+        answer(page, case, &buffer[..case.size], table, steps, bytes, given)?;
     }
-    flush(page, used);
+    Ok(())
 }
 
 fn main() {
-    let mut page = [0u8; 65536];
-    let mut buffer = [0u8; 300000];
-    let mut table = [0u32; 280000];
-    let mut steps = [0u64; 70000];
-    let mut bytes = [0u8; 70000];
-    let mut given = [0u8; 300000];
-    run(
+    let mut page = Page::new();
+    let mut buffer = [0u8; DESCRIPTION];
+    let mut table = [0u32; NUMBERS];
+    let mut steps = [0u64; ROOM];
+    let mut bytes = [0u8; ROOM];
+    let mut given = [0u8; DESCRIPTION];
+    let ran = run(
         &mut page,
         &mut buffer,
         &mut table,
@@ -191,4 +112,8 @@ fn main() {
         &mut bytes,
         &mut given,
     );
+    if let Err(Stopped::BadCase) = ran {
+        page.put(b"bad case\n");
+    }
+    page.finish();
 }

@@ -1,66 +1,33 @@
-// The two lent tables that the writer takes, of numbers and of bytes, as they are filled: each function is told how much of a table is filled,
-// and answers how much is then. A full table takes no more.
-use super::places::{number_4_in, past};
+// A lent table that the writer takes, of numbers or of bytes, as it is filled. A full table takes no more.
+ghost use Rattle.std.specs.Prelude.{◌≤◌, length};
 
-pub fn add_number(table: &mut [u32], filled: usize, number: u32) -> usize {
-    if table.len() <= filled {
-        return filled;
-    }
-    table[filled] = number;
-    filled + 1
-}
-
-fn add_byte(table: &mut [u8], filled: usize, byte: u8) -> usize {
-    if table.len() <= filled {
-        return filled;
-    }
-    table[filled] = byte;
-    filled + 1
-}
-
-pub fn add_four(
-    table: &mut [u32],
+#[derive(Drop)]
+pub struct Table<'a, T> {
+    places: &'a mut [T],
     filled: usize,
-    first: u32,
-    second: u32,
-    third: u32,
-    fourth: u32,
-) -> usize {
-    let filled = add_number(table, filled, first);
-    let filled = add_number(table, filled, second);
-    let filled = add_number(table, filled, third);
-    add_number(table, filled, fourth)
+    ghost within: { filled ≤ length places.now },
 }
 
-// So many numbers of four bytes that stand at a place of the buffer.
-pub fn add_numbers(
-    table: &mut [u32],
-    filled: usize,
-    buffer: &[u8],
-    from: usize,
-    count: usize,
-) -> usize {
-    let mut now = filled;
-    let mut at = from;
-    let mut i: usize = 0;
-    while i < count {
-        now = add_number(table, now, number_4_in(buffer, at));
-        at = past(buffer, at, 4);
-        i += 1;
+impl<'a, T: Copy> Table<'a, T> {
+    pub fn new(places: &'a mut [T]) -> Table<'a, T> {
+        Table { places, filled: 0 }
     }
-    now
-}
 
-// The bytes of the buffer from a place up to an end.
-pub fn add_bytes(table: &mut [u8], filled: usize, buffer: &[u8], from: usize, end: usize) -> usize {
-    let mut now = filled;
-    let mut i = from;
-    while i < end {
-        if buffer.len() <= i {
-            return now;
+    pub fn push(&mut self, one: T) {
+        if self.places.len() <= self.filled {
+            return;
         }
-        now = add_byte(table, now, buffer[i]);
-        i += 1;
+        self.places[self.filled] = one;
+        self.filled += 1;
     }
-    now
+
+    pub fn extend(&mut self, more: &[T]) {
+        for one in more {
+            self.push(*one);
+        }
+    }
+
+    pub fn filled(&self) -> &[T] {
+        &self.places[..self.filled]
+    }
 }

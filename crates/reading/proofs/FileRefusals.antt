@@ -4,11 +4,12 @@ use Prim.Native.Nat.{ℕ, suc, ◌+◌, ◌≤◌}
 use mathlib.Core.Bool.{Bool, true, false}
 use mathlib.Core.List.{List, [], ◌∷◌}
 use mathlib.Core.Logic.{◌⊎◌, inl, inr}
-use mathlib.Core.Option.{Option, none, some}
+use Rattle.std.specs.Prelude.{Option, None, Some, Ok, Err}
 use mathlib.Core.Path.{◌≡◌, refl, subst}
 use lib.ListN.{length, take}
 use native.Mathlib.Omega.{arith}
-use Rattle.model.specs.Words.{when◌then◌else◌, Checked, Checked.fine, Checked.refused, ◌>>=◌, ◌>>◌, passed, counted_from, each, all_pass, Step, Step.met, Step.stuck, walk_to, in_turn, Placed}
+use Rattle.model.specs.Words.{when◌then◌else◌, Checked, ◌>>=◌, ◌>>◌, passed, counted_from, each, all_pass, Step, Step.met, Step.stuck, walk_to, in_turn, Placed, refused}
+use Rattle.model.specs.declared.Read as read
 use Rattle.model.specs.Item.{Item, item_at, item_met, item_step, body_of, message_met, setup_step, setup_message_at, setup_of}
 use Rattle.model.specs.Chunk.{Chunk, read_chunk, chunk_met, chunk_step, allowed_once, chunk_list}
 use Rattle.model.specs.Seek.{Entry, Entry.start, Entry.stop, Entry.phrase, Entry.order, entry_at, followed, entry_met, entry_step, in_order, seek_of}
@@ -17,14 +18,10 @@ use Rattle.model.specs.Track.{score_voice, pcm_voice, voice_of, fixed_holds, req
 use Rattle.model.specs.File.{frame_of, opened, top_of, contents_of, file_of}
 use Rattle.model.specs.declared.Voice.{Voice}
 use Rattle.model.specs.declared.Event.{Event}
-use Rattle.model.specs.declared.ReadEvent.{ReadEvent}
-use Rattle.model.specs.declared.ReadEvent.TheVariants as event
 use Rattle.model.specs.declared.ReadItem.{ReadItem}
-use Rattle.model.specs.declared.ReadItem.TheVariants as item
+use Rattle.model.specs.declared.ReadItem.TheVariants.{Timed, EndMark}
 use Rattle.model.specs.declared.ReadChunk.{ReadChunk}
-use Rattle.model.specs.declared.ReadChunk.TheVariants as chunk
-use Rattle.model.specs.declared.ReadEntry.{ReadEntry}
-use Rattle.model.specs.declared.ReadEntry.TheVariants as entry
+use Rattle.model.specs.declared.SeekEntry.{SeekEntry}
 use Rattle.model.proofs.Tests.{if_all}
 use Rattle.model.proofs.Walks.{refused_tells}
 use Rattle.items.proofs.Ahead.{ItemAhead, item_ahead}
@@ -34,8 +31,8 @@ abbrev pub Read : ℕ → Type 0
 Read number = ((1 ≤ number) × (number ≤ 14)) ⊎ ((20 ≤ number) × (number ≤ 23))
 
 abbrev Low : {A : Type 0} → Checked A → Type 0
-Low (fine a) = Unit
-Low (refused number place) = Read number
+Low (Ok a) = Unit
+Low (Err why) = Read why.number
 
 abbrev LowStep : {A : Type 0} → Step A → Type 0
 LowStep (met a next) = Unit
@@ -45,18 +42,18 @@ LowStep (stuck number place) = Read number
 
 low_bind : {A B : Type 0} (c : Checked A) (rest : A → Checked B) → Low c → ((a : A) → Low (rest a)) → Low (c >>= rest)
 unfolding ◌>>=◌
-low_bind (fine a) rest l m = m a
-low_bind (refused number place) rest l m = l
+low_bind (Ok a) rest l m = m a
+low_bind (Err why) rest l m = l
 
 low_then : {A B : Type 0} (c : Checked A) (rest : Checked B) → Low c → Low rest → Low (c >> rest)
 unfolding ◌>>◌
-low_then (fine a) rest l m = m
-low_then (refused number place) rest l m = l
+low_then (Ok a) rest l m = m
+low_then (Err why) rest l m = l
 
 low_counted : {A : Type 0} (base : ℕ) (c : Checked A) → Low c → Low (counted_from base c)
 unfolding counted_from
-low_counted base (fine a) l = tt
-low_counted base (refused number place) l = l
+low_counted base (Ok a) l = tt
+low_counted base (Err why) l = l
 
 low_test : {A : Type 0} (b : Bool) (number place : ℕ) (rest : Checked A) → Read number → Low rest → Low (when b then refused number place else rest)
 low_test b number place rest r l = if_all Low b (refused number place) rest (λ h. r) (λ h. l)
@@ -74,8 +71,8 @@ module _ {A : Type 0} where
   low_all check (a ∷ list) l = low_then (check a) (all_pass check list) (l a) (low_all check list l)
 
   low_as_told : (c : Checked A) → ((number place : ℕ) → c ≡ refused number place → Read number) → Low c
-  low_as_told (fine a) told = tt
-  low_as_told (refused number place) told = told number place refl
+  low_as_told (Ok a) told = tt
+  low_as_told (Err why) told = told why.number why.place refl
 
 low_list : {A : Type 0} (number end from : ℕ) (step : ℕ → Step A) (check : List A → A → Checked (Unit {0})) → Read number → ((n : ℕ) → LowStep (step n))
     → ((l : List A) (a : A) → Low (check l a)) → Low (in_turn check [] (walk_to number end step from))
@@ -90,11 +87,11 @@ low_list number end from step check r s l =
 
 -- 11, 20 TO 23: BODIES
 
-met_low : (at end : ℕ) (r : ReadItem) → ItemAhead at end r → LowStep (item_met at r)
+met_low : (at end : ℕ) (r : Checked ReadItem) → ItemAhead at end r → LowStep (item_met at r)
 unfolding item_met
-met_low at end (item.Timed value what next) a = tt
-met_low at end (item.EndMark next) a = tt
-met_low at end (item.Refused number place) a = inr (omega arith)
+met_low at end (Ok (Timed value what next)) a = tt
+met_low at end (Ok (EndMark next)) a = tt
+met_low at end (Err why) a = inr (omega arith)
 
 item_low : (voice : Voice) (s : List ℕ) (at : ℕ) → LowStep (item_step voice s at)
 unfolding item_step
@@ -108,10 +105,10 @@ body_low voice s =
 
 -- 10: SETUPS
 
-message_low : (at : ℕ) (r : ReadEvent) → LowStep (message_met at r)
+message_low : (at : ℕ) (r : Checked (read.Read Event)) → LowStep (message_met at r)
 unfolding message_met
-message_low at (event.Is what next) = tt
-message_low at (event.Refused number place) = inl (omega arith)
+message_low at (Ok read) = tt
+message_low at (Err why) = inl (omega arith)
 
 setup_low : (s : List ℕ) → Low (setup_of s)
 unfolding setup_of setup_step
@@ -121,10 +118,10 @@ setup_low s =
 
 -- 4, 9, 6: CHUNK LISTS
 
-chunk_low : (at : ℕ) (r : ReadChunk) → LowStep (chunk_met at r)
+chunk_low : (at : ℕ) (r : Option ReadChunk) → LowStep (chunk_met at r)
 unfolding chunk_met
-chunk_low at (chunk.Is id size next) = tt
-chunk_low at chunk.Cut = inl (omega arith)
+chunk_low at (Some read) = tt
+chunk_low at None = inl (omega arith)
 
 list_low : (allowed : ℕ → Bool) (s : List ℕ) (from end : ℕ) → Low (chunk_list allowed s from end)
 unfolding chunk_list chunk_step allowed_once
@@ -138,13 +135,10 @@ followed_low : (s : List ℕ) (at next : ℕ) (one : Entry) → LowStep (followe
 unfolding followed
 followed_low s at next one = if_all LowStep _ _ _ (λ h. tt) (λ h. if_all LowStep _ _ _ (λ k. tt) (λ k. inl (omega arith)))
 
-entry_low : (s : List ℕ) (at : ℕ) (r : ReadEntry) → LowStep (entry_met s at r)
+entry_low : (s : List ℕ) (at : ℕ) (r : Option (read.Read SeekEntry)) → LowStep (entry_met s at r)
 unfolding entry_met
-entry_low s at (entry.Start value next) = followed_low s at next _
-entry_low s at (entry.Stop value next) = followed_low s at next _
-entry_low s at (entry.Phrase letter from to next) = followed_low s at next _
-entry_low s at (entry.Order letters next) = followed_low s at next _
-entry_low s at entry.Refused = inl (omega arith)
+entry_low s at (Some one) = followed_low s at one.next _
+entry_low s at None = inl (omega arith)
 
 form_low : (width : ℕ) (s : List ℕ) → Low (seek_of width s)
 unfolding seek_of entry_step in_order
@@ -180,21 +174,21 @@ points_low false items size entries = holds_low _ _ entries
 
 seek_low : (phrases : Bool) (items : List (Placed (Item Event))) (size : ℕ) (s : List ℕ) (o : Option Chunk) → Low (entries_of phrases items size s o)
 unfolding entries_of seek_in
-seek_low phrases items size s none = tt
-seek_low phrases items size s (some one) =
+seek_low phrases items size s None = tt
+seek_low phrases items size s (Some one) =
     low_counted _ _ (low_bind _ _ (form_low _ _) (λ entries. low_then _ _ (points_low phrases items size entries) tt))
 
 -- 8 TO 14, 20 TO 23: TRACKS
 
 required_low : (header : ℕ) (o : Option Chunk) → Low (required header o)
 unfolding required
-required_low header none = inl (omega arith)
-required_low header (some one) = tt
+required_low header None = inl (omega arith)
+required_low header (Some one) = tt
 
 setups_low : (s : List ℕ) (o : Option Chunk) → Low (setup_holds s o)
 unfolding setup_holds
-setups_low s none = tt
-setups_low s (some one) = low_then _ _ (low_counted _ _ (setup_low _)) tt
+setups_low s None = tt
+setups_low s (Some one) = low_then _ _ (low_counted _ _ (setup_low _)) tt
 
 fixed_low : (voice : Voice) (s : List ℕ) (one : Chunk) → Low (fixed_holds voice s one)
 unfolding fixed_holds
@@ -222,8 +216,8 @@ voice_low s one =
 
 opened_low : (s : List ℕ) (one : Chunk) (voice : Option Voice) → Low (opened s one voice)
 unfolding opened
-opened_low s one none = tt
-opened_low s one (some voice) = low_bind _ _ (track_low s voice one) (λ track. tt)
+opened_low s one None = tt
+opened_low s one (Some voice) = low_bind _ _ (track_low s voice one) (λ track. tt)
 
 top_low : (s : List ℕ) (one : Chunk) → Low (top_of s one)
 unfolding top_of

@@ -6,23 +6,22 @@ use mathlib.Core.List.{List, ◌∷◌, ◌++◌}
 use lib.ListN.{length, take}
 use lib.Seq.{sets}
 use native.Mathlib.Omega.{arith}
-use Rattle.model.specs.Words.{◌≡?◌, Checked, Checked.fine, each}
+use Rattle.model.specs.Words.{◌≡?◌, Checked, each}
+use Rattle.std.specs.Prelude.{Ok}
 use Rattle.model.specs.Bytes.{number}
 use Rattle.model.specs.CheckCode.{check_code}
 use Rattle.model.specs.Item.{is_fine, found}
 use Rattle.model.specs.Chunk.{Chunk, chunk_at}
 use Rattle.model.specs.File.{File, Top, Row, top_of, contents_of, row_in, rows_from, rows_of, numbers_of}
 use Rattle.model.specs.Answer.{read_answer}
-use Rattle.model.specs.declared.ReadAnswer.TheVariants as read
 use Rattle.model.proofs.Outcomes.{fine_some}
-use Rattle.model.proofs.Parts.{front_length}
 use Rattle.chunks.specs.Kept.{chunks_in}
 use Rattle.model.proofs.Stores.{sets_append}
 use Rattle.reading.specs.Stages.{row_numbers, file_rows}
 use Rattle.reading.proofs.Accepted.{Made, contents_made}
 
 module _ (s : List ℕ) (ok : is_fine (contents_of s) ≡ true) where
-  accepted : (file : File) × (contents_of s ≡ fine file)
+  accepted : (file : File) × (contents_of s ≡ Ok file)
   accepted = fine_some (contents_of s) ok
 
   made : Made s accepted.0
@@ -34,12 +33,6 @@ module _ (s : List ℕ) (ok : is_fine (contents_of s) ≡ true) where
   pub accepted_four : 4 ≤ length s
   accepted_four = omega (arith, made.long)
 
-  pub accepted_eight : 8 ≤ length s
-  accepted_eight = omega (arith, made.long)
-
-  pub accepted_front : length s - 2 ≤ length s
-  accepted_front = omega arith
-
   pub accepted_code : length s - 2 + 2 ≤ length s
   accepted_code = omega (arith, made.long)
 
@@ -50,7 +43,7 @@ module _ (s : List ℕ) (ok : is_fine (contents_of s) ≡ true) where
   unfolding is_fine
   accepted_list = ap is_fine made.listed
 
-  accepted_tops : each (top_of s) (found (chunks_in s 8 (length s - 2))) ≡ fine accepted.0.tops
+  accepted_tops : each (top_of s) (found (chunks_in s 8 (length s - 2))) ≡ Ok accepted.0.tops
   unfolding found
   accepted_tops = ap (λ (c : Checked (List Chunk)). each (top_of s) (found c)) made.listed ∙ made.opens
 
@@ -86,15 +79,15 @@ module _ (s : List ℕ) (ok : is_fine (contents_of s) ≡ true) where
 
   -- the answer
   pub file_told : (count code held : ℕ) → count ≡ length (file_rows (contents_of s)) → code ≡ check_code (take (length s - 2) s) → held ≡ number 2 s (length s - 2)
-      → read.Rows count code (held ≡? code) ≡ read_answer (contents_of s)
+      → Ok (record { count = count; code = code; matches = held ≡? code }) ≡ read_answer (contents_of s)
   unfolding read_answer file_rows
   file_told count code held n c h =
       let e = accepted.1 in
       let rows = length (file_rows (contents_of s)) in
-      ap (λ (k : ℕ). read.Rows k code (held ≡? code)) n
-      ∙ ap₂ (λ (x y : ℕ). read.Rows rows x (y ≡? x)) c h
-      ∙ ap₂ (λ (x : ℕ) (b : Bool). read.Rows rows x b) (sym made.coded) (sym made.matched)
-      ∙ ap (λ (f : Checked File). read.Rows (length (file_rows f)) accepted.0.code accepted.0.matches) e
+      ap (λ (k : ℕ). (Ok (record { count = k; code = code; matches = held ≡? code }))) n
+      ∙ ap₂ (λ (x y : ℕ). (Ok (record { count = rows; code = x; matches = y ≡? x }))) c h
+      ∙ ap₂ (λ (x : ℕ) (b : Bool). (Ok (record { count = rows; code = x; matches = b }))) (sym made.coded) (sym made.matched)
+      ∙ ap (λ (f : Checked File). (Ok (record { count = (length (file_rows f)); code = accepted.0.code; matches = accepted.0.matches }))) e
       ∙ ap read_answer (sym e)
 
-pub ruleset file_rows_lem = (accepted_two, accepted_four, accepted_eight, accepted_front, accepted_code, accepted_from, accepted_list, accepted_all, file_own_room, file_room, file_filled, file_told, front_length)
+pub ruleset file_rows_lem = (accepted_two, accepted_four, accepted_code, accepted_from, accepted_list, accepted_all, file_own_room, file_room, file_filled, file_told)

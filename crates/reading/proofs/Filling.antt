@@ -13,8 +13,8 @@ use mir.Syntax.{w32}
 use Rattle.model.specs.Item.{is_fine, found}
 use Rattle.model.specs.Chunk.{Chunk, read_chunk, chunk_step}
 use Rattle.model.specs.File.{Row, row_in, numbers_of}
+use Rattle.std.specs.Prelude.{Option, Some, None}
 use Rattle.model.specs.declared.ReadChunk.{ReadChunk}
-use Rattle.model.specs.declared.ReadChunk.TheVariants.{Is, Cut}
 use Rattle.chunks.specs.Kept.{chunks_in}
 use Rattle.model.proofs.Walks.{Stand}
 use Rattle.model.proofs.Stores.{sets_append}
@@ -73,9 +73,6 @@ fill_starts s start end container l k h inside small ok room =
     }
 
 module _ (s : List ℕ) (start end container : ℕ) (l out : List ℕ) (k row at : ℕ) (f : Filling s start end container l out k row at) where
-  pub fill_kept : length out ≡ length l
-  fill_kept = f.same
-
   module _ (past : end ≤ at) where
     nothing : f.rest ≡ []
     nothing = none_left s end at f.within f.rest f.stand past
@@ -87,40 +84,34 @@ module _ (s : List ℕ) (start end container : ℕ) (l out : List ℕ) (k row at
     unfolding numbers_of
     fill_ends = ap (λ (chunks : List Chunk). sets out (4 * row) (numbers_of (map (row_in container) chunks))) (sym nothing) ∙ f.whole
 
-  module _ (r : ReadChunk) (here : at < end) (is : r ≡ read_chunk s end at) where
-    fill_never : r ≡ Cut → ⊥
+  module _ (r : Option ReadChunk) (here : at < end) (is : r ≡ read_chunk s end at) where
+    fill_never : r ≡ None → ⊥
     fill_never e = never_cut s end at f.within r is f.rest here f.stand e
 
-    pub fill_never_counts : r ≡ Cut → row ≡ k + length (found (chunks_in s start end))
+    pub fill_never_counts : r ≡ None → row ≡ k + length (found (chunks_in s start end))
     fill_never_counts e = absurd (fill_never e)
 
-    pub fill_never_ends : r ≡ Cut → out ≡ sets l (4 * k) (numbers_of (map (row_in container) (found (chunks_in s start end))))
+    pub fill_never_ends : r ≡ None → out ≡ sets l (4 * k) (numbers_of (map (row_in container) (found (chunks_in s start end))))
     fill_never_ends e = absurd (fill_never e)
 
-    module _ (id size next : ℕ) (e : r ≡ Is id size next) where
-      ahead : ChunkAhead s end at (Is id size next)
+    module _ (read : ReadChunk) (e : r ≡ Some read) where
+      ahead : ChunkAhead s end at (Some read)
       ahead = subst (ChunkAhead s end at) (sym is ∙ e) (chunk_ahead s end at f.within)
 
-      left : (rest : List Chunk) × (f.rest ≡ record { id = id; place = at; size = size } ∷ rest) × Stand end (chunk_step s end) next rest
-      left = first_left s end at f.within r is f.rest id size next here f.stand e
+      left : (rest : List Chunk) × (f.rest ≡ record { id = read.id; place = at; size = read.size } ∷ rest) × Stand end (chunk_step s end) read.next rest
+      left = first_left s end at f.within r is f.rest read here f.stand e
 
       more : length f.rest ≡ 1 + length left.0
       more = omega (arith, ap length left.1)
 
-      pub fill_nears : end - next < end - at
+      pub fill_nears : end - read.next < end - at
       fill_nears = let a = ahead in omega arith
 
-      pub fill_place : Fits w32 at
-      fill_place = record { fits = omega (arith, f.within, f.small) }
-
-      pub fill_size : Fits w32 size
+      pub fill_size : Fits w32 read.size
       fill_size = let a = ahead in record { fits = omega (arith, f.small) }
 
-      pub fill_room : 4 * row + 4 ≤ length out
-      fill_room = omega (arith, more, f.room)
-
-      pub fill_turns : (m : List ℕ) → m ≡ sets out (4 * row) (row_numbers id at size container) → length m ≡ length out
-          → Filling s start end container l m k (row + 1) next
+      pub fill_turns : (m : List ℕ) → m ≡ sets out (4 * row) (row_numbers read.id at read.size container) → length m ≡ length out
+          → Filling s start end container l m k (row + 1) read.next
       unfolding row_in
       fill_turns m q kept =
           let a = ahead in
@@ -135,9 +126,9 @@ module _ (s : List ℕ) (start end container : ℕ) (l out : List ℕ) (k row at
             room = omega (arith, more, f.room);
             whole =
                 ap (λ (x : List ℕ). sets x (4 * (row + 1)) (numbers_of (map (row_in container) left.0))) q
-                ∙ row_first out row id at size container (map (row_in container) left.0)
+                ∙ row_first out row read.id at read.size container (map (row_in container) left.0)
                 ∙ ap (λ (chunks : List Chunk). sets out (4 * row) (numbers_of (map (row_in container) chunks))) (sym left.1)
                 ∙ f.whole;
           }
 
-pub ruleset fills = (fill_starts, fill_kept, fill_counts, fill_ends, fill_never_counts, fill_never_ends, fill_nears, fill_place, fill_size, fill_room, fill_turns)
+pub ruleset fills = (fill_starts, fill_counts, fill_ends, fill_never_counts, fill_never_ends, fill_nears, fill_size, fill_turns)

@@ -7,7 +7,7 @@ use mathlib.Core.List.{List}
 use lib.ListN.{length, take, length-take}
 use native.Mathlib.Omega.{arith}
 use borrow.Author.Tests.{lt-ltb, le-ltb}
-use Rattle.model.specs.Words.{when◌then◌else◌, ◌or◌, ◌<?◌, Checked.refused, ◌>>◌}
+use Rattle.model.specs.Words.{when◌then◌else◌, ◌or◌, ◌<?◌, ◌>>◌, refused}
 use Rattle.model.specs.File.{contents_of, file_of}
 
 module _ (buffer : List ℕ) (n : ℕ) where

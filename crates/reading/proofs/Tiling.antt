@@ -8,7 +8,8 @@ use lib.ListN.{length, take}
 use lib.Seq.{length-take-le}
 use native.Mathlib.Omega.{arith}
 use borrow.Author.Tests.{le-leb, lt-leb, le-ltb, lt-ltb, ltb-true, ltb-false}
-use Rattle.model.specs.Words.{when◌then◌else◌, ◌<?◌, keep, Checked.fine, each}
+use Rattle.model.specs.Words.{when◌then◌else◌, ◌<?◌, keep, each}
+use Rattle.std.specs.Prelude.{Ok}
 use Rattle.model.specs.Chunk.{Chunk, chunk_at, chunk_step}
 use Rattle.model.specs.File.{File, Top, Top.leaf, Top.readable, top_of, contents_of, file_of}
 use Rattle.model.specs.Stretch.{Stretch, header_of, leaf_body, fixed_field, check_code_of, leaves, stretches_in, stretches_of, Tile, holds}
@@ -42,7 +43,7 @@ top_tiles s end at chunk (readable one track) tops here o t =
     rw o.0 (here, (omega arith, tile_append (at + 8 + 6) (at + 8 + chunk.size) end (leaves track.parts) (stretches_in tops) inner t))
 
 tops_tile : (s : List ℕ) (end at : ℕ) (chunks : List Chunk) (tops : List Top) → at ≤ end → Stand end (chunk_step s end) at chunks
-    → each (top_of s) chunks ≡ fine tops → Tile at (stretches_in tops) end
+    → each (top_of s) chunks ≡ Ok tops → Tile at (stretches_in tops) end
 unfolding stretches_in
 tops_tile s end at [] tops within st e = rw (each_none (top_of s) tops e) st
 tops_tile s end at (chunk ∷ chunks) tops within st e =
@@ -52,7 +53,7 @@ tops_tile s end at (chunk ∷ chunks) tops within st e =
     subst (λ (all : List Top). Tile at (stretches_in all) end) (sym o.4)
     (top_tiles s end at chunk o.0 o.1 f.0 (opened_as s chunk o.0 o.2) rest)
 
-pub stretches_tile : (s : List ℕ) (file : File) → contents_of s ≡ fine file → Tile 0 (stretches_of file) (length s)
+pub stretches_tile : (s : List ℕ) (file : File) → contents_of s ≡ Ok file → Tile 0 (stretches_of file) (length s)
 unfolding stretches_of header_of check_code_of chunk_at
 stretches_tile s file e =
     let m = contents_made s file e in
@@ -61,7 +62,7 @@ stretches_tile s file e =
     let inner = tops_tile s (length s - 2) 8 m.chunks file.tops (omega arith) m.stand m.opens in
     rw m.whole (refl, tile_append 8 (length s - 2) (length s) (stretches_in file.tops) _ inner (omega arith, omega arith))
 
-pub stated_stretches_tile : (buffer : List ℕ) (n : ℕ) (file : File) → file_of buffer n ≡ fine file → Tile 0 (stretches_of file) n
+pub stated_stretches_tile : (buffer : List ℕ) (n : ℕ) (file : File) → file_of buffer n ≡ Ok file → Tile 0 (stretches_of file) n
 stated_stretches_tile buffer n file e =
     let a = stated_bytes buffer n file e in
     subst (λ (to : ℕ). Tile 0 (stretches_of file) to) (length-take-le n buffer a.0) (stretches_tile (take n buffer) file a.1)
@@ -123,7 +124,7 @@ one_inside i from to (one ∷ rest) t h g =
     not_held i one rest (holds_past i one (omega arith) (omega arith)) ∙ one_inside i (from + one.size) to rest t.1 q g)
 
 -- THE DEMAND, of a buffer with a stated length
-module _ (buffer : List ℕ) (n : ℕ) (file : File) (e : file_of buffer n ≡ fine file) (i : ℕ) where
+module _ (buffer : List ℕ) (n : ℕ) (file : File) (e : file_of buffer n ≡ Ok file) (i : ℕ) where
   pub one_stretch_holds : i < n → length (keep (holds i) (stretches_of file)) ≡ 1
   one_stretch_holds h = one_inside i 0 n (stretches_of file) (stated_stretches_tile buffer n file e) (omega arith) h
 

@@ -3,10 +3,10 @@ use Prim.Native.Nat.{ℕ, ◌+◌}
 use mathlib.Core.Path.{◌≡◌, refl, ap, subst}
 use mathlib.Core.Bool.{true}
 use mathlib.Core.List.{List}
-use mathlib.Core.Option.{Option, none, some}
+use Rattle.std.specs.Prelude.{Option, None, Some, Ok, Err}
 use lib.ListN.{length}
 use native.Mathlib.Omega.{arith}
-use Rattle.model.specs.Words.{◌≡?◌, Checked, Checked.fine, Checked.refused}
+use Rattle.model.specs.Words.{◌≡?◌, Checked}
 use Rattle.model.specs.Bytes.{◌!◌}
 use Rattle.model.specs.Chunk.{Chunk, body_bytes, chunk_list}
 use Rattle.model.specs.Item.{is_fine, body_of}
@@ -16,31 +16,31 @@ use Rattle.model.specs.declared.Part.TheVariants as parts
 use Rattle.model.specs.declared.Voice.{Voice}
 use Rattle.model.proofs.Outcomes.{then_fine, bind_fine, counted_fine}
 
-required_is : (header : ℕ) (o : Option Chunk) (chunk : Chunk) → required header o ≡ fine chunk → o ≡ some chunk
+required_is : (header : ℕ) (o : Option Chunk) (chunk : Chunk) → required header o ≡ Ok chunk → o ≡ Some chunk
 unfolding required
-required_is header none chunk e = let z : ◌≡◌ {A = ℕ} 0 1 = cc in absurd (omega arith)
-required_is header (some one) chunk e = let same : one ≡ chunk = cc in ap some same
+required_is header None chunk e = let z : ◌≡◌ {A = ℕ} 0 1 = cc in absurd (omega arith)
+required_is header (Some one) chunk e = let same : one ≡ chunk = cc in ap Some same
 
 -- its fixed bytes hold, its parts are those of its list, and its body, items and entries are those of its parts
 pub record TrackMade (s : List ℕ) (voice : Voice) (chunk : Chunk) (track : Track) : Type 0 where
   pub fixed : is_fine (fixed_holds voice s chunk) ≡ true
-  pub listed : chunk_list (is_allowed (list.Track voice)) s (chunk.place + 8 + 6) (chunk.place + 8 + chunk.size) ≡ fine track.parts
+  pub listed : chunk_list (is_allowed (list.Track voice)) s (chunk.place + 8 + 6) (chunk.place + 8 + chunk.size) ≡ Ok track.parts
   pub sequence : Chunk
-  pub named : part_named (part_id parts.Sequence voice) track.parts ≡ some sequence
+  pub named : part_named (part_id parts.Sequence voice) track.parts ≡ Some sequence
   pub body : track.body ≡ body_bytes s sequence
-  pub reads : body_of voice (body_bytes s sequence) ≡ fine track.items
+  pub reads : body_of voice (body_bytes s sequence) ≡ Ok track.items
   pub entries : entries_of track.phrases track.items (length (body_bytes s sequence)) s (part_named (part_id parts.Seek voice) track.parts)
-      ≡ fine track.entries
+      ≡ Ok track.entries
   pub header : track.header ≡ chunk.place
   pub voiced : track.voice ≡ voice
   pub phrased : track.phrases ≡ (s ! (chunk.place + 8 + 1) ≡? 1)
   pub based : track.base_d ≡ s ! (chunk.place + 8 + place_of_d voice)
 
 abbrev track_or : Checked Track → Track → Track
-track_or (fine track) other = track
-track_or (refused number place) other = other
+track_or (Ok track) other = track
+track_or (Err why) other = other
 
-pub track_made : (s : List ℕ) (voice : Voice) (chunk : Chunk) (track : Track) → track_of s voice chunk ≡ fine track → TrackMade s voice chunk track
+pub track_made : (s : List ℕ) (voice : Voice) (chunk : Chunk) (track : Track) → track_of s voice chunk ≡ Ok track → TrackMade s voice chunk track
 unfolding track_of
 track_made s voice chunk track e =
     let a = then_fine _ _ track e in

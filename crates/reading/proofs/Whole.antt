@@ -8,20 +8,19 @@ use lib.Seq.{sets, sets-eq}
 use native.Mathlib.Nat.{zero-add}
 use native.Mathlib.Omega.{arith}
 use borrow.Author.Tests.{lt-ltb, le-ltb}
-use Rattle.model.specs.Words.{when◌then◌else◌, Checked, Checked.fine, Checked.refused, ◌>>=◌, ◌>>◌}
+use Rattle.model.specs.Words.{when◌then◌else◌, Checked, ◌>>=◌, ◌>>◌, refused}
+use Rattle.std.specs.Prelude.{Ok, Err}
 use Rattle.model.specs.Item.{is_fine}
 use Rattle.model.specs.File.{File, contents_of, file_of, rows_of, numbers_of}
 use Rattle.model.specs.Answer.{written_over, memory_after, read_of, read_answer, read_table}
+use Rattle.model.specs.declared.Refusal.{Refusal}
 use Rattle.model.specs.declared.ReadAnswer.{ReadAnswer}
-use Rattle.model.specs.declared.ReadAnswer.TheVariants as read
-use Rattle.model.specs.declared.Counted.{Counted}
-use Rattle.model.specs.declared.Counted.TheVariants as counted
 use Rattle.reading.proofs.Filling.{numbers_many}
-use Rattle.reading.proofs.Stated.{stated_past, stated_over, stated_within, stated_small}
+use Rattle.reading.proofs.Stated.{stated_past, stated_over, stated_within}
 use Rattle.reading.specs.Stages.{file_answer, file_rows, with_room}
 
 -- a refusal answers its number and place, and keeps the table
-refused_answer : (o : Checked File) (number place : ℕ) → o ≡ refused number place → read.Refused number place ≡ read_answer o
+refused_answer : (o : Checked File) (number place : ℕ) → o ≡ refused number place → refused number place ≡ read_answer o
 unfolding read_answer
 refused_answer o number place e = ap read_answer (sym e)
 
@@ -31,18 +30,18 @@ refused_kept l o number place e = ap (read_table l) (sym e)
 
 -- what is stated: 2 to 14, then 15
 
-room_refused : (room : ℕ) (c : Checked File) (number place : ℕ) → file_answer c ≡ counted.Refused number place → with_room room c ≡ refused number place
+room_refused : (room : ℕ) (c : Checked File) (number place : ℕ) → file_answer c ≡ refused number place → with_room room c ≡ refused number place
 unfolding with_room file_answer ◌>>=◌
-room_refused room (fine file) number place e = let z : ◌≡◌ {A = ℕ} 0 1 = cc in absurd (omega arith)
-room_refused room (refused n p) number place e = let a : n ≡ number = cc in let b : p ≡ place = cc in rw (a, b)
+room_refused room (Ok file) number place e = let z : ◌≡◌ {A = ℕ} 0 1 = cc in absurd (omega arith)
+room_refused room (Err why) number place e = let a : why.number ≡ number = cc in let b : why.place ≡ place = cc in rw (a, b)
 
-room_short : (room : ℕ) (c : Checked File) (count : ℕ) → file_answer c ≡ counted.Rows count → room / 4 < count → with_room room c ≡ refused 15 0
+room_short : (room : ℕ) (c : Checked File) (count : ℕ) → file_answer c ≡ Ok count → room / 4 < count → with_room room c ≡ refused 15 0
 unfolding with_room file_answer ◌>>=◌ ◌>>◌ when◌then◌else◌
-room_short room (fine file) count e h =
+room_short room (Ok file) count e h =
     let n : length (rows_of file) ≡ count = cc in
     let short : room / 4 < length (rows_of file) = omega arith in
     simp lt-ltb
-room_short room (refused n p) count e h = let z : ◌≡◌ {A = ℕ} 0 1 = cc in absurd (omega arith)
+room_short room (Err why) count e h = let z : ◌≡◌ {A = ℕ} 0 1 = cc in absurd (omega arith)
 
 -- a file whose rows are counted
 pub record Roomy (room : ℕ) (c : Checked File) (count : ℕ) : Type 0 where
@@ -50,32 +49,32 @@ pub record Roomy (room : ℕ) (c : Checked File) (count : ℕ) : Type 0 where
   pub rows : count ≡ length (file_rows c)
   pub is : with_room room c ≡ c
 
-roomy : (room : ℕ) (c : Checked File) (count : ℕ) → file_answer c ≡ counted.Rows count → count ≤ room / 4 → Roomy room c count
+roomy : (room : ℕ) (c : Checked File) (count : ℕ) → file_answer c ≡ Ok count → count ≤ room / 4 → Roomy room c count
 unfolding with_room file_answer file_rows is_fine ◌>>=◌ ◌>>◌ when◌then◌else◌
-roomy room (fine file) count e h =
+roomy room (Ok file) count e h =
     let n : length (rows_of file) ≡ count = cc in
     let enough : length (rows_of file) ≤ room / 4 = omega arith in
     record { ok = refl; rows = sym n; is = simp le-ltb }
-roomy room (refused n p) count e h = let z : ◌≡◌ {A = ℕ} 0 1 = cc in absurd (omega arith)
+roomy room (Err why) count e h = let z : ◌≡◌ {A = ℕ} 0 1 = cc in absurd (omega arith)
 
 written_table : (l : List ℕ) (c : Checked File) → is_fine c ≡ true → 4 * length (file_rows c) ≤ length l → sets l 0 (numbers_of (file_rows c)) ≡ read_table l c
 unfolding read_table memory_after written_over file_rows is_fine
-written_table l (fine file) ok room =
+written_table l (Ok file) ok room =
     let many = numbers_many (rows_of file) in
     sets-eq (numbers_of (rows_of file)) l 0 (omega arith)
     ∙ ap (λ (n : ℕ). numbers_of (rows_of file) ++ drop n l) (zero-add (length (numbers_of (rows_of file))))
-written_table l (refused n p) ok room = absurd (false≢true ok)
+written_table l (Err why) ok room = absurd (false≢true ok)
 
-module _ (s : List ℕ) (l : List ℕ) (r : Counted) (told : r ≡ file_answer (contents_of s)) where
-  module _ (number place : ℕ) (e : r ≡ counted.Refused number place) where
-    pub stated_refused : read.Refused number place ≡ read_answer (with_room (length l) (contents_of s))
-    stated_refused = refused_answer _ number place (room_refused (length l) (contents_of s) number place (sym told ∙ e))
+module _ (s : List ℕ) (l : List ℕ) (r : Checked ℕ) (told : r ≡ file_answer (contents_of s)) where
+  module _ (why : Refusal) (e : r ≡ Err why) where
+    pub stated_refused : Err why ≡ read_answer (with_room (length l) (contents_of s))
+    stated_refused = refused_answer _ why.number why.place (room_refused (length l) (contents_of s) why.number why.place (sym told ∙ e))
 
     pub stated_kept : l ≡ read_table l (with_room (length l) (contents_of s))
-    stated_kept = refused_kept l _ number place (room_refused (length l) (contents_of s) number place (sym told ∙ e))
+    stated_kept = refused_kept l _ why.number why.place (room_refused (length l) (contents_of s) why.number why.place (sym told ∙ e))
 
-  module _ (count : ℕ) (e : r ≡ counted.Rows count) where
-    pub stated_short : length l / 4 < count → read.Refused 15 0 ≡ read_answer (with_room (length l) (contents_of s))
+  module _ (count : ℕ) (e : r ≡ Ok count) where
+    pub stated_short : length l / 4 < count → refused 15 0 ≡ read_answer (with_room (length l) (contents_of s))
     stated_short h = refused_answer _ 15 0 (room_short (length l) (contents_of s) count (sym told ∙ e) h)
 
     pub stated_short_kept : length l / 4 < count → l ≡ read_table l (with_room (length l) (contents_of s))
@@ -94,7 +93,7 @@ module _ (s : List ℕ) (l : List ℕ) (r : Counted) (told : r ≡ file_answer (
       pub stated_room : 4 * length (file_rows (contents_of s)) ≤ length l
       stated_room = omega (arith, fits.rows)
 
-      pub stated_answer : (a : ReadAnswer) → a ≡ read_answer (contents_of s) → a ≡ read_answer (with_room (length l) (contents_of s))
+      pub stated_answer : (a : Checked ReadAnswer) → a ≡ read_answer (contents_of s) → a ≡ read_answer (with_room (length l) (contents_of s))
       stated_answer a h = h ∙ ap read_answer (sym fits.is)
 
       pub stated_table : (m : List ℕ) → m ≡ sets l 0 (numbers_of (file_rows (contents_of s))) → m ≡ read_table l (with_room (length l) (contents_of s))
@@ -117,13 +116,13 @@ module _ (buffer : List ℕ) (n : ℕ) (l : List ℕ) where
   unfolding with_room ◌>>=◌
   over h k = read_is buffer n (length l) (refused 1 0) (stated_over buffer n h k)
 
-  pub past_refused : length buffer < n → read.Refused 1 0 ≡ read_answer (read_of buffer n (length l))
+  pub past_refused : length buffer < n → refused 1 0 ≡ read_answer (read_of buffer n (length l))
   past_refused h = refused_answer _ 1 0 (past h)
 
   pub past_kept : length buffer < n → l ≡ read_table l (read_of buffer n (length l))
   past_kept h = refused_kept l _ 1 0 (past h)
 
-  pub over_refused : n ≤ length buffer → 65536 < n → read.Refused 1 0 ≡ read_answer (read_of buffer n (length l))
+  pub over_refused : n ≤ length buffer → 65536 < n → refused 1 0 ≡ read_answer (read_of buffer n (length l))
   over_refused h k = refused_answer _ 1 0 (over h k)
 
   pub over_kept : n ≤ length buffer → 65536 < n → l ≡ read_table l (read_of buffer n (length l))
@@ -133,10 +132,10 @@ module _ (buffer : List ℕ) (n : ℕ) (l : List ℕ) where
     within : with_room (length l) (contents_of (take n buffer)) ≡ read_of buffer n (length l)
     within = sym (read_is buffer n (length l) (contents_of (take n buffer)) (stated_within buffer n h k))
 
-    pub whole_answer : (a : ReadAnswer) → a ≡ read_answer (with_room (length l) (contents_of (take n buffer))) → a ≡ read_answer (read_of buffer n (length l))
+    pub whole_answer : (a : Checked ReadAnswer) → a ≡ read_answer (with_room (length l) (contents_of (take n buffer))) → a ≡ read_answer (read_of buffer n (length l))
     whole_answer a e = e ∙ ap read_answer within
 
     pub whole_table : (m : List ℕ) → m ≡ read_table l (with_room (length l) (contents_of (take n buffer))) → m ≡ read_table l (read_of buffer n (length l))
     whole_table m e = e ∙ ap (read_table l) within
 
-pub ruleset whole = (past_refused, past_kept, over_refused, over_kept, stated_small, whole_answer, whole_table)
+pub ruleset whole = (whole_answer, whole_table)

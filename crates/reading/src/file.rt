@@ -5,20 +5,14 @@ ghost use Rattle.reading.specs.Stages.{file_answer};
 
 use super::frame::check_frame;
 use super::tops::check_tops;
-use model::{Check, Counted};
+use model::Refusal;
 
-pub fn check_file(s: &[u8]) -> Counted
+pub fn check_file(s: &[u8]) -> Result<usize, Refusal>
     requires { length s.now ≤ 65536 }
     ensures { result ≡ file_answer (contents_of s.now) }
 {
-    match check_frame(s) {
-        Check::Refused { number, place } => Counted::Refused { number, place },
-        Check::Passed => {
-            let end = s.len() - 2;
-            match check_tops(s, 8, end) {
-                Counted::Refused { number, place } => Counted::Refused { number, place },
-                Counted::Rows { count } => Counted::Rows { count: 1 + count },
-            }
-        }
-    }
+    check_frame(s)?;
+    let end = s.len() - 2;
+    let count = check_tops(s, 8, end)?;
+    Ok(1 + count)
 }

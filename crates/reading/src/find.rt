@@ -5,25 +5,22 @@ ghost use Rattle.model.specs.File.{top_of, contents_of};
 ghost use Rattle.reading.specs.Stages.{placed, tops_of, top_at, found_top, found_track};
 
 use super::top::{count_rows, voice_of};
-use model::{FoundTrack, FoundVoice, ReadChunk};
+use model::FoundTrack;
 
 // The track of a chunk of the top level.
-fn track_at(s: &[u8], place: usize, size: usize) -> FoundTrack
+#[tactic(auto, using(crate::proofs::Finding::top_tracks))]
+fn track_at(s: &[u8], place: usize, size: usize) -> Option<FoundTrack>
     requires size_in_bounds { place + 8 + size ≤ length s.now }
     requires size_value { is_fine (top_of s.now (placed s.now place size)) ≡ true }
     ensures { result ≡ found_track (found_top (top_of s.now (placed s.now place size))) }
 {
-    match voice_of(s, place, size) {
-        FoundVoice::Refused {
-            number: _,
-            place: _,
-        } => FoundTrack::Nowhere,
-        FoundVoice::Closed => FoundTrack::Nowhere,
-        FoundVoice::Opened(voice) => FoundTrack::At { voice, place, size },
-    }
+    let Ok(Some(voice)) = voice_of(s, place, size) else {
+        return None;
+    };
+    Some(FoundTrack { voice, place, size })
 }
 
-pub fn find_track(s: &[u8], row: usize) -> FoundTrack
+pub fn find_track(s: &[u8], row: usize) -> Option<FoundTrack>
     requires s_len_bound { length s.now ≤ 65536 }
     requires s_value { is_fine (contents_of s.now) ≡ true }
     ensures { result ≡ found_track (top_at row 1 (tops_of (contents_of s.now))) }
@@ -32,14 +29,12 @@ pub fn find_track(s: &[u8], row: usize) -> FoundTrack
     let mut k: usize = 1;
     let mut at: usize = 8;
     while at < end {
-        let ReadChunk::Is { id: _, size, next } = chunks::read_chunk(s, end, at) else {
-            return FoundTrack::Nowhere;
-        };
+        let chunk = chunks::read_chunk(s, end, at)?;
         if k == row {
-            return track_at(s, at, size);
+            return track_at(s, at, chunk.size);
         }
-        k += count_rows(s, at, size);
-        at = next;
+        k += count_rows(s, at, chunk.size);
+        at = chunk.next;
     }
-    FoundTrack::Nowhere
+    None
 }

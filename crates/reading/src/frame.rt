@@ -5,7 +5,7 @@ ghost use Rattle.model.specs.File.{opens_with_contents, frame_of};
 ghost use Rattle.chunks.specs.Kept.{chunks_in};
 ghost use Rattle.reading.specs.Stages.{contents_hold};
 
-use model::{Check, ListOf, ReadChunk, Wanted};
+use model::{ListOf, Refusal, Wanted, refused};
 
 // Whether the list that begins at 8 begins with a CNTI chunk of 5 bytes and more.
 fn opens_with_contents(s: &[u8], end: usize) -> bool
@@ -16,66 +16,38 @@ fn opens_with_contents(s: &[u8], end: usize) -> bool
     if end <= 8 {
         return false;
     }
-    let ReadChunk::Is {
-        id: _,
-        size,
-        next: _,
-    } = chunks::read_chunk(s, end, 8)
-    else {
+    let Some(chunk) = chunks::read_chunk(s, end, 8) else {
         return false;
     };
-    if !numbers::same_id(s, 8, b"CNTI") {
-        return false;
-    }
-    5 <= size
+    numbers::stands_at(s, 8, b"CNTI") && 5 <= chunk.size
 }
 
-pub fn check_frame(s: &[u8]) -> Check
+pub fn check_frame(s: &[u8]) -> Result<(), Refusal>
     requires { length s.now ≤ 65536 }
     ensures { result ≡ check_answer (frame_of s.now) }
 {
-    if s.len() < 10 {
-        return Check::Refused {
-            number: 2,
-            place: 0,
-        };
+    if s.len() < 10 || !numbers::stands_at(s, 0, b"MMMD") {
+        return refused(2, 0);
     }
-    if !numbers::same_id(s, 0, b"MMMD") {
-        return Check::Refused {
-            number: 2,
-            place: 0,
-        };
-    }
-    if numbers::number_4(s, 4) as usize + 8 != s.len() {
-        return Check::Refused {
-            number: 3,
-            place: 4,
-        };
+    if numbers::number_at::<4>(s, 4) as usize + 8 != s.len() {
+        return refused(3, 4);
     }
     let end = s.len() - 2;
-    match chunks::check_list(ListOf::File, s, 8, end) {
-        Check::Refused { number, place } => Check::Refused { number, place },
-        Check::Passed => check_contents(s, end),
-    }
+    chunks::check_list(ListOf::File, s, 8, end)?;
+    check_contents(s, end)
 }
 
 // 5 and 7, of a list that passed its check.
-fn check_contents(s: &[u8], end: usize) -> Check
+fn check_contents(s: &[u8], end: usize) -> Result<(), Refusal>
     requires le_end { (8 ≤ end) × (end ≤ length s.now) × (end ≤ 65536) }
     requires end_value { is_fine (chunks_in s.now 8 end) ≡ true }
     ensures { result ≡ check_answer (contents_hold end (found (chunks_in s.now 8 end))) }
 {
     if !opens_with_contents(s, end) {
-        return Check::Refused {
-            number: 5,
-            place: 8,
-        };
+        return refused(5, 8);
     }
     if !chunks::has_chunk(s, 8, end, Wanted::Track) {
-        return Check::Refused {
-            number: 7,
-            place: end,
-        };
+        return refused(7, end);
     }
-    Check::Passed
+    Ok(())
 }

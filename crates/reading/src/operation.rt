@@ -7,10 +7,11 @@ ghost use Rattle.reading.specs.Stages.{file_answer, file_rows, with_room};
 
 use super::file::check_file;
 use super::row::fill_rows;
-use model::{Counted, ReadAnswer};
+use model::{ReadAnswer, Refusal, refused};
 
 // The answer where all rows have room: how many they are, the check code and whether the file ends with it.
-fn answer_of(s: &[u8], count: usize) -> ReadAnswer
+#[tactic(auto, using(crate::proofs::FileRows::file_rows_lem))]
+fn answer_of(s: &[u8], count: usize) -> Result<ReadAnswer, Refusal>
     requires s_len_bound { length s.now ≤ 65536 }
     requires s_value { is_fine (contents_of s.now) ≡ true }
     requires count_value { count ≡ length (file_rows (contents_of s.now)) }
@@ -18,49 +19,33 @@ fn answer_of(s: &[u8], count: usize) -> ReadAnswer
 {
     let end = s.len() - 2;
     let code = checkcode::check_code(&s[..end]);
-    ReadAnswer::Rows {
+    Ok(ReadAnswer {
         count,
         code,
-        matches: numbers::number_2(s, end) == code as u32,
-    }
+        matches: numbers::number_at::<2>(s, end) == code as u32,
+    })
 }
 
 // The whole read of the stated bytes: 2 to 14, then 15; nothing is written before all is known.
-fn read_stated(s: &[u8], rows: &mut [u32]) -> ReadAnswer
+fn read_stated(s: &[u8], rows: &mut [u32]) -> Result<ReadAnswer, Refusal>
     requires { length s.now ≤ 65536 }
     ensures value { result ≡ read_answer (with_room (length rows.old) (contents_of s.now)) }
     ensures rows_after { rows.new ≡ read_table rows.old (with_room (length rows.old) (contents_of s.now)) }
 {
-    match check_file(s) {
-        Counted::Refused { number, place } => ReadAnswer::Refused { number, place },
-        Counted::Rows { count } => {
-            if rows.len() / 4 < count {
-                return ReadAnswer::Refused {
-                    number: 15,
-                    place: 0,
-                };
-            }
-            fill_rows(s, rows);
-            answer_of(s, count)
-        }
+    let count = check_file(s)?;
+    if rows.len() / 4 < count {
+        return refused(15, 0);
     }
+    fill_rows(s, rows);
+    answer_of(s, count)
 }
 
-pub fn read(buffer: &[u8], n: usize, rows: &mut [u32]) -> ReadAnswer
+pub fn read(buffer: &[u8], n: usize, rows: &mut [u32]) -> Result<ReadAnswer, Refusal>
     ensures value { result ≡ read_answer (read_of buffer.now n (length rows.old)) }
     ensures rows_after { rows.new ≡ read_table rows.old (read_of buffer.now n (length rows.old)) }
 {
-    if buffer.len() < n {
-        return ReadAnswer::Refused {
-            number: 1,
-            place: 0,
-        };
-    }
-    if 65536 < n {
-        return ReadAnswer::Refused {
-            number: 1,
-            place: 0,
-        };
+    if buffer.len() < n || 65536 < n {
+        return refused(1, 0);
     }
     read_stated(&buffer[..n], rows)
 }

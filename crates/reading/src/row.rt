@@ -8,7 +8,6 @@ ghost use Rattle.chunks.specs.Kept.{chunks_in};
 ghost use Rattle.reading.specs.Stages.{placed, row_numbers, parts_by, file_rows};
 
 use super::top::voice_of;
-use model::{FoundVoice, ReadChunk};
 
 // Writes a row's four numbers.
 fn put_row(rows: &mut [u32], at: usize, id: u32, place: u32, size: u32, container: u32)
@@ -39,12 +38,19 @@ fn fill_parts(
     let mut row = k;
     let mut at = start;
     while at < end {
-        let ReadChunk::Is { id, size, next } = chunks::read_chunk(s, end, at) else {
+        let Some(chunk) = chunks::read_chunk(s, end, at) else {
             return row;
         };
-        put_row(rows, 4 * row, id, at as u32, size as u32, container);
+        put_row(
+            rows,
+            4 * row,
+            chunk.id,
+            at as u32,
+            chunk.size as u32,
+            container,
+        );
         row += 1;
-        at = next;
+        at = chunk.next;
     }
     row
 }
@@ -57,21 +63,10 @@ fn fill_contents(s: &[u8], place: usize, size: usize, rows: &mut [u32], k: usize
     ensures value { result ≡ k + 1 + length (parts_by (top_of s.now (placed s.now place size))) }
     ensures rows_after { rows.new ≡ sets rows.old (4 * (k + 1)) (numbers_of (map (row_in k) (parts_by (top_of s.now (placed s.now place size))))) }
 {
-    match voice_of(s, place, size) {
-        FoundVoice::Opened(_) => fill_parts(
-            s,
-            place + 8 + 6,
-            place + 8 + size,
-            k as u32,
-            rows,
-            k + 1,
-        ),
-        FoundVoice::Closed => k + 1,
-        FoundVoice::Refused {
-            number: _,
-            place: _,
-        } => k + 1,
-    }
+    let Ok(Some(_)) = voice_of(s, place, size) else {
+        return k + 1;
+    };
+    fill_parts(s, place + 8 + 6, place + 8 + size, k as u32, rows, k + 1)
 }
 
 // Writes the rows of a chunk of the top level that passed its check, from row k on. Returns the row number after them.
@@ -85,7 +80,7 @@ fn fill_top(s: &[u8], place: usize, size: usize, rows: &mut [u32], k: usize) -> 
     put_row(
         rows,
         4 * k,
-        numbers::number_4(s, place),
+        numbers::number_at::<4>(s, place),
         place as u32,
         size as u32,
         0,
@@ -104,11 +99,11 @@ fn fill_tops(s: &[u8], end: usize, rows: &mut [u32])
     let mut row: usize = 1;
     let mut at: usize = 8;
     while at < end {
-        let ReadChunk::Is { id: _, size, next } = chunks::read_chunk(s, end, at) else {
+        let Some(chunk) = chunks::read_chunk(s, end, at) else {
             return;
         };
-        row = fill_top(s, at, size, rows, row);
-        at = next;
+        row = fill_top(s, at, chunk.size, rows, row);
+        at = chunk.next;
     }
 }
 
@@ -122,9 +117,9 @@ pub fn fill_rows(s: &[u8], rows: &mut [u32])
     put_row(
         rows,
         0,
-        numbers::number_4(s, 0),
+        numbers::number_at::<4>(s, 0),
         0,
-        numbers::number_4(s, 4),
+        numbers::number_at::<4>(s, 4),
         0,
     );
     fill_tops(s, s.len() - 2, rows);

@@ -1,69 +1,52 @@
 // One chunk of the top level: whether it is opened, its check, and how many rows it brings.
-ghost use Rattle.std.specs.Prelude.{◌≡◌, true, ◌+◌, ◌≤◌, length};
+ghost use Rattle.std.specs.Prelude.{◌≡◌, true, Some, Ok, ◌+◌, ◌≤◌, length};
 ghost use Rattle.model.specs.Item.{is_fine, found};
 ghost use Rattle.model.specs.Track.{score_voice, pcm_voice, voice_of};
-ghost use Rattle.std.proofs.Math.Option.{some};
 ghost use Rattle.model.specs.File.{opened, top_of};
 ghost use Rattle.chunks.specs.Kept.{chunks_in};
-ghost use Rattle.reading.specs.Stages.{placed, voice_answer, top_answer, Few};
+ghost use Rattle.reading.specs.Stages.{placed, top_answer, Few};
 
-use model::{Check, Counted, FoundVoice, ReadChunk, Voice};
+use model::{Refusal, Voice, refused};
 
 // A score track, whose first byte is its format.
-fn score_voice(s: &[u8], body: usize, size: usize) -> FoundVoice
+#[tactic(auto, using(model::proofs::Tests::tests, model::proofs::Tests::first_true, model::proofs::Tests::second_true, model::proofs::Tests::neither_true), unfolding(model::specs::Track::score_voice))]
+fn score_voice(s: &[u8], body: usize, size: usize) -> Result<Option<Voice>, Refusal>
     requires { body + size ≤ length s.now }
-    ensures { result ≡ voice_answer (score_voice s.now body size) }
+    ensures { result ≡ score_voice s.now body size }
 {
-    if size == 0 {
-        return FoundVoice::Refused {
-            number: 8,
-            place: body,
-        };
+    if size == 0 || 3 <= s[body] {
+        return refused(8, body);
     }
-    let format = s[body];
-    if 3 <= format {
-        return FoundVoice::Refused {
-            number: 8,
-            place: body,
-        };
+    if s[body] == 0 {
+        return Ok(Some(Voice::Score));
     }
-    if format == 0 {
-        return FoundVoice::Opened(Voice::Score);
-    }
-    FoundVoice::Closed
+    Ok(None)
 }
 
 // A PCM track, whose first byte is its format.
-fn pcm_voice(s: &[u8], body: usize, size: usize) -> FoundVoice
+#[tactic(auto, using(model::proofs::Tests::tests, model::proofs::Tests::first_true, model::proofs::Tests::second_true, model::proofs::Tests::neither_true), unfolding(model::specs::Track::pcm_voice))]
+fn pcm_voice(s: &[u8], body: usize, size: usize) -> Result<Option<Voice>, Refusal>
     requires { body + size ≤ length s.now }
-    ensures { result ≡ voice_answer (pcm_voice s.now body size) }
+    ensures { result ≡ pcm_voice s.now body size }
 {
-    if size == 0 {
-        return FoundVoice::Refused {
-            number: 8,
-            place: body,
-        };
+    if size == 0 || s[body] != 0 {
+        return refused(8, body);
     }
-    if 1 <= s[body] {
-        return FoundVoice::Refused {
-            number: 8,
-            place: body,
-        };
-    }
-    FoundVoice::Opened(Voice::Pcm)
+    Ok(Some(Voice::Pcm))
 }
 
-pub fn voice_of(s: &[u8], place: usize, size: usize) -> FoundVoice
+#[tactic(auto, using(model::proofs::Tests::if_yes, model::proofs::Tests::if_no, model::proofs::Tests::is_on, model::proofs::Tests::is_off, numbers::proofs::Sizes::family), unfolding(model::specs::Track::voice_of))]
+pub fn voice_of(s: &[u8], place: usize, size: usize) -> Result<Option<Voice>, Refusal>
     requires { place + 8 + size ≤ length s.now }
-    ensures { result ≡ voice_answer (voice_of s.now (placed s.now place size)) }
+    ensures { result ≡ voice_of s.now (placed s.now place size) }
 {
-    if numbers::same_family(s, place, b"MTR") {
+    if numbers::stands_at(s, place, b"MTR") {
         return score_voice(s, place + 8, size);
     }
-    if numbers::same_family(s, place, b"ATR") {
+    if numbers::stands_at(s, place, b"ATR") {
         return pcm_voice(s, place + 8, size);
     }
-    FoundVoice::Closed
+    Ok(None)
 }
 
 // How many chunks a list has.
@@ -75,45 +58,35 @@ fn count_chunks(s: &[u8], start: usize, end: usize) -> usize
     let mut count: usize = 0;
     let mut at = start;
     while at < end {
-        let ReadChunk::Is {
-            id: _,
-            size: _,
-            next,
-        } = chunks::read_chunk(s, end, at)
-        else {
+        let Some(chunk) = chunks::read_chunk(s, end, at) else {
             return count;
         };
         count += 1;
-        at = next;
+        at = chunk.next;
     }
     count
 }
 
 // A track that is opened in a voice.
-fn check_opened(voice: Voice, s: &[u8], place: usize, size: usize) -> Counted
+fn check_opened(voice: Voice, s: &[u8], place: usize, size: usize) -> Result<usize, Refusal>
     requires size_in_bounds { place + 8 + size ≤ length s.now }
     requires s_len_bound { length s.now ≤ 65536 }
-    ensures value { result ≡ top_answer (opened s.now (placed s.now place size) (some voice)) }
+    ensures value { result ≡ top_answer (opened s.now (placed s.now place size) (Some voice)) }
     ensures few { Few result }
 {
-    match tracks::check_track(voice, s, place, size) {
-        Check::Refused { number, place } => Counted::Refused { number, place },
-        Check::Passed => Counted::Rows {
-            count: 1 + count_chunks(s, place + 8 + 6, place + 8 + size),
-        },
-    }
+    tracks::check_track(voice, s, place, size)?;
+    Ok(1 + count_chunks(s, place + 8 + 6, place + 8 + size))
 }
 
-pub fn check_top(s: &[u8], place: usize, size: usize) -> Counted
+pub fn check_top(s: &[u8], place: usize, size: usize) -> Result<usize, Refusal>
     requires size_in_bounds { place + 8 + size ≤ length s.now }
     requires s_len_bound { length s.now ≤ 65536 }
     ensures value { result ≡ top_answer (top_of s.now (placed s.now place size)) }
     ensures few { Few result }
 {
-    match voice_of(s, place, size) {
-        FoundVoice::Refused { number, place } => Counted::Refused { number, place },
-        FoundVoice::Closed => Counted::Rows { count: 1 },
-        FoundVoice::Opened(voice) => check_opened(voice, s, place, size),
+    match voice_of(s, place, size)? {
+        Some(voice) => check_opened(voice, s, place, size),
+        None => Ok(1),
     }
 }
 
@@ -122,15 +95,11 @@ pub fn count_rows(s: &[u8], place: usize, size: usize) -> usize
     requires size_in_bounds { place + 8 + size ≤ length s.now }
     requires s_len_bound { length s.now ≤ 65536 }
     requires size_value { is_fine (top_of s.now (placed s.now place size)) ≡ true }
-    ensures result_value { Counted.Rows result ≡ top_answer (top_of s.now (placed s.now place size)) }
+    ensures result_value { Ok result ≡ top_answer (top_of s.now (placed s.now place size)) }
     ensures upper_bound { result ≤ 65537 }
 {
-    match voice_of(s, place, size) {
-        FoundVoice::Refused {
-            number: _,
-            place: _,
-        } => 1,
-        FoundVoice::Closed => 1,
-        FoundVoice::Opened(_) => 1 + count_chunks(s, place + 8 + 6, place + 8 + size),
-    }
+    let Ok(Some(_)) = voice_of(s, place, size) else {
+        return 1;
+    };
+    1 + count_chunks(s, place + 8 + 6, place + 8 + size)
 }

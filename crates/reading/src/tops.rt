@@ -7,9 +7,9 @@ ghost use Rattle.chunks.specs.Kept.{chunks_in};
 ghost use Rattle.reading.specs.Stages.{tops_answer, Countable};
 
 use super::top::check_top;
-use model::{Counted, ReadChunk};
+use model::Refusal;
 
-pub fn check_tops(s: &[u8], start: usize, end: usize) -> Counted
+pub fn check_tops(s: &[u8], start: usize, end: usize) -> Result<usize, Refusal>
     requires start_le_end { (start ≤ end) × (end ≤ length s.now) × (length s.now ≤ 65536) }
     requires end_value { is_fine (chunks_in s.now start end) ≡ true }
     ensures value { result ≡ tops_answer (each (top_of s.now) (found (chunks_in s.now start end))) }
@@ -18,18 +18,11 @@ pub fn check_tops(s: &[u8], start: usize, end: usize) -> Counted
     let mut rows: usize = 0;
     let mut at = start;
     while at < end {
-        let ReadChunk::Is { id: _, size, next } = chunks::read_chunk(s, end, at) else {
-            return Counted::Rows { count: rows };
+        let Some(chunk) = chunks::read_chunk(s, end, at) else {
+            return Ok(rows);
         };
-        match check_top(s, at, size) {
-            Counted::Refused { number, place } => {
-                return Counted::Refused { number, place };
-            }
-            Counted::Rows { count } => {
-                rows += count;
-                at = next;
-            }
-        }
+        rows += check_top(s, at, chunk.size)?;
+        at = chunk.next;
     }
-    Counted::Rows { count: rows }
+    Ok(rows)
 }

@@ -1,88 +1,96 @@
 // Where end marks stand in a sequence body, for the picture: the one at which playing stops, and those at the time of a section's stop, which
 // are passed.
-ghost use Rattle.std.specs.Prelude.{◌≡◌, true, ◌≤◌, ◌<◌, length};
+ghost use Rattle.std.specs.Prelude.{◌≡◌, ◌-◌, true, ◌≤◌, ◌<◌, length};
+ghost use Rattle.std.specs.Iterator.{at_most};
 ghost use Rattle.playing.specs.Performing.{entries_said, Named, Ready};
 
-use super::frame::later;
-use super::messages::more;
 use model::{ReadItem, Span, Voice};
 
-// An item as the picture needs it: the place after it, its duration, and what it is.
+// An item as the picture needs it: where it begins and ends, its duration, and what it is.
 #[derive(Clone, Copy)]
 struct Walked {
-    pub next: usize,
-    pub duration: u64,
-    pub message: bool,
-    pub mark: bool,
+    place: usize,
+    next: usize,
+    duration: u64,
+    what: What,
 }
 
-// The item at a place; 0 is the place after what is none.
-fn item_at(voice: Voice, body: &[u8], place: usize) -> Walked {
-    match items::read_item(voice, body, place) {
+#[derive(Clone, Copy, PartialEq, Eq)]
+enum What {
+    Message,
+    Silence,
+    EndMark,
+}
+
+// The items of a body from a place on, up to its end or to what is none.
+#[derive(Drop)]
+struct Walk<'a> {
+    voice: Voice,
+    body: &'a [u8],
+    place: usize,
+}
+
+impl<'a> Iterator for Walk<'a> {
+    type Item = Walked;
+
+    ghost remaining = { λ walk. at_most (length walk.body.now - walk.place) };
+
+    fn next(&mut self) -> Option<Walked> {
+        let place = self.place;
+        if self.body.len() <= place {
+            return None;
+        }
+        let item = items::read_item(self.voice, self.body, place).ok()?;
+        let walked = walked_at(place, item);
+        if walked.next <= place {
+            return None;
+        }
+        self.place = walked.next;
+        Some(walked)
+    }
+}
+
+fn walked_at(place: usize, item: ReadItem) -> Walked {
+    match item {
         ReadItem::Timed {
             duration,
             event,
             next,
         } => Walked {
+            place,
             next,
             duration: duration as u64,
-            message: sections::is_message(event),
-            mark: false,
+            what: if sections::is_message(event) {
+                What::Message
+            } else {
+                What::Silence
+            },
         },
         ReadItem::EndMark { next } => Walked {
+            place,
             next,
             duration: 0,
-            message: false,
-            mark: true,
-        },
-        ReadItem::Refused {
-            number: _,
-            place: _,
-        } => Walked {
-            next: 0,
-            duration: 0,
-            message: false,
-            mark: false,
+            what: What::EndMark,
         },
     }
 }
 
-// The place after the first end mark from a place on; 0 where there is none.
-pub fn after_mark(voice: Voice, body: &[u8], from: usize) -> usize {
-    let mut place = from;
-    while place < body.len() {
-        let item = item_at(voice, body, place);
-        if item.mark {
-            return item.next;
-        }
-        if item.next <= place {
-            return 0;
-        }
-        place = item.next;
-    }
-    0
+fn walk_from<'a>(voice: Voice, body: &'a [u8], place: usize) -> Walk<'a> {
+    Walk { voice, body, place }
 }
 
-fn more_if(count: u64, is: bool) -> u64 {
-    if is {
-        return more(count);
-    }
-    count
+// The place after the first end mark from a place on.
+pub fn after_mark(voice: Voice, body: &[u8], from: usize) -> Option<usize> {
+    let mark = walk_from(voice, body, from).find(|item| item.what == What::EndMark)?;
+    Some(mark.next)
 }
 
 // How many messages stand from a place up to another.
-pub fn messages_between(voice: Voice, body: &[u8], from: usize, to: usize) -> u64 {
-    let mut count: u64 = 0;
-    let mut place = from;
-    while place < to {
-        let item = item_at(voice, body, place);
-        count = more_if(count, item.message);
-        if item.next <= place {
-            return count;
-        }
-        place = item.next;
-    }
-    count
+pub fn messages_between(voice: Voice, body: &[u8], from: usize, to: usize) -> usize {
+    walk_from(voice, body, from)
+        .take_while(|item| item.place < to)
+        .filter(|item| item.what == What::Message)
+        .count()
 }
 
 // Whether an end mark stands at the time at which a span ends. One that lasts no time, as that of a letter without a section, has no room in
@@ -91,37 +99,23 @@ pub fn ends_at_mark(voice: Voice, body: &[u8], span: Span) -> bool {
     if span.lasts == 0 {
         return false;
     }
-    let end = later(span.start, span.lasts);
+    let end = span.start.saturating_add(span.lasts);
     let mut time = span.past;
-    let mut place = span.first;
-    while place < body.len() {
-        let item = item_at(voice, body, place);
-        time = later(time, item.duration);
+    for item in walk_from(voice, body, span.first) {
+        time = time.saturating_add(item.duration);
         if end < time {
             return false;
         }
-        if item.next <= place {
-            return false;
+        if item.what == What::EndMark && time == end {
+            return true;
         }
-        if item.mark {
-            if time == end {
-                return true;
-            }
-        }
-        place = item.next;
     }
     false
 }
 
 // The letters at the end of whose sections an end mark stands.
 pub fn marked_letters(voice: Voice, body: &[u8], spans: [Span; 256]) -> [bool; 256] {
-    let mut marked = [false; 256];
-    let mut letter: usize = 0;
-    while letter < 256 {
-        marked[letter] = ends_at_mark(voice, body, spans[letter]);
-        letter += 1;
-    }
-    marked
+    spans.map(|span| ends_at_mark(voice, body, span))
 }
 
 // Whether playing stops at an end mark in the section of a letter.

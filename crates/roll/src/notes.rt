@@ -1,175 +1,131 @@
 // The messages in the picture: a note as long as its gate at its pitch, a wave in its lane, anything else as a mark in the lane below.
-use super::frame::later;
-use super::messages::{Message, message_of, no_shifts, row_of, shifts_after};
-use super::page::{
-    Bases, Layout, across, distance, edge, milliseconds, put_colour, put_note_name, put_pair,
-    put_seconds, tenths,
-};
-use text::{put, put_byte, put_decimal};
+use super::layout::{Bases, Layout, NoteName, Seconds, Tenths, colour, milliseconds};
+use super::messages::{Kind, Message, Shifts};
+use std::fmt;
+use std::fmt::Write;
+use text::Page;
 
-// How wide what lasts from a time to another is, in tenths of a pixel: a pixel and a half at least.
-fn width(layout: Layout, from: u64, to: u64) -> u64 {
-    let wide = distance(across(layout, from), across(layout, to));
-    if wide < 15 {
-        return 15;
-    }
-    wide
+// A message, the row of its note, and the milliseconds from which to which it lasts.
+#[derive(Clone, Copy)]
+struct Heard {
+    message: Message,
+    row: u64,
+    from: u64,
+    to: u64,
 }
 
-// What is told of a message where the mouse rests on it: its channel and its time.
-fn put_told(page: &mut [u8], used: usize, message: Message, time: u64) -> usize {
-    let used = put(page, used, b", channel ");
-    let used = put_decimal(page, used, message.channel as u64);
-    let used = put(page, used, b", at ");
-    let used = put_seconds(page, used, time);
-    put(page, used, b" s</title></rect>\n")
+// How wide it is, in tenths of a pixel: a pixel and a half at least.
+fn width(layout: Layout, heard: Heard) -> u64 {
+    let wide = layout
+        .across(heard.to)
+        .saturating_sub(layout.across(heard.from));
+    wide.max(15)
 }
 
 // A bar as long as a message's gate.
-fn put_bar(
-    page: &mut [u8],
-    used: usize,
-    layout: Layout,
-    bases: Bases,
-    message: Message,
-    time: u64,
-) -> usize {
-    let end = later(time, milliseconds(message.gate, bases.gate));
-    let used = put(
+fn put_bar(page: &mut Page, layout: Layout, heard: Heard) -> fmt::Result {
+    write!(
         page,
-        used,
-        b"<rect rx=\"2\" stroke=\"#fff\" stroke-width=\"0.6\" fill-opacity=\"0.88\"",
-    );
-    let used = put_pair(page, used, b"x", across(layout, time));
-    let used = put_pair(page, used, b"width", width(layout, time, end));
-    let used = put(page, used, b" fill=\"");
-    let used = put_colour(page, used, message.channel);
-    put_byte(page, used, b'"')
+        "<rect rx=\"2\" stroke=\"#fff\" stroke-width=\"0.6\" fill-opacity=\"0.88\" x=\"{}\" width=\"{}\" fill=\"{}\"",
+        Tenths(layout.across(heard.from)),
+        Tenths(width(layout, heard)),
+        colour(heard.message.channel)
+    )
 }
 
-fn draw_note(
-    page: &mut [u8],
-    used: usize,
-    layout: Layout,
-    bases: Bases,
-    message: Message,
-    row: u64,
-    time: u64,
-) -> usize {
-    let used = put_bar(page, used, layout, bases, message, time);
-    let used = put_pair(page, used, b"y", tenths(edge(layout, row)));
-    let used = put_pair(page, used, b"height", tenths(layout.row_height));
-    let used = put(page, used, b"><title>");
-    let used = put_note_name(page, used, row);
-    put_told(page, used, message, time)
+// What is told of a message where the mouse rests on it: its channel and its time.
+fn put_told(page: &mut Page, heard: Heard) -> fmt::Result {
+    writeln!(
+        page,
+        ", channel {}, at {} s</title></rect>",
+        heard.message.channel,
+        Seconds(heard.from)
+    )
+}
+
+fn draw_note(page: &mut Page, layout: Layout, heard: Heard) -> fmt::Result {
+    put_bar(page, layout, heard)?;
+    write!(
+        page,
+        " y=\"{}.0\" height=\"{}.0\"><title>{}",
+        layout.edge(heard.row),
+        layout.row_height,
+        NoteName(heard.row)
+    )?;
+    put_told(page, heard)
 }
 
 // A wave's number on its bar, where the bar is wide enough for it.
-fn draw_number(
-    page: &mut [u8],
-    used: usize,
-    layout: Layout,
-    bases: Bases,
-    message: Message,
-    time: u64,
-) -> usize {
-    let end = later(time, milliseconds(message.gate, bases.gate));
-    if width(layout, time, end) < 180 {
-        return used;
+fn draw_number(page: &mut Page, layout: Layout, heard: Heard) -> fmt::Result {
+    if width(layout, heard) < 180 {
+        return Ok(());
     }
-    let used = put(
+    writeln!(
         page,
-        used,
-        b"<text fill=\"#fff\" font-size=\"11\" font-weight=\"bold\" dx=\"4\" dy=\"15\"",
-    );
-    let used = put_pair(page, used, b"x", across(layout, time));
-    let used = put_pair(page, used, b"y", tenths(layout.waves));
-    let used = put_byte(page, used, b'>');
-    let used = put_decimal(page, used, message.value as u64);
-    put(page, used, b"</text>\n")
+        "<text fill=\"#fff\" font-size=\"11\" font-weight=\"bold\" dx=\"4\" dy=\"15\" x=\"{}\" y=\"{}.0\">{}</text>",
+        Tenths(layout.across(heard.from)),
+        layout.waves,
+        heard.message.value
+    )
 }
 
-fn draw_wave(
-    page: &mut [u8],
-    used: usize,
-    layout: Layout,
-    bases: Bases,
-    message: Message,
-    time: u64,
-) -> usize {
-    let used = put_bar(page, used, layout, bases, message, time);
-    let used = put_pair(page, used, b"y", tenths(layout.waves));
-    let used = put(page, used, b" height=\"22\"><title>wave ");
-    let used = put_decimal(page, used, message.value as u64);
-    let used = put_told(page, used, message, time);
-    draw_number(page, used, layout, bases, message, time)
+fn draw_wave(page: &mut Page, layout: Layout, heard: Heard) -> fmt::Result {
+    put_bar(page, layout, heard)?;
+    write!(
+        page,
+        " y=\"{}.0\" height=\"22\"><title>wave {}",
+        layout.waves, heard.message.value
+    )?;
+    put_told(page, heard)?;
+    draw_number(page, layout, heard)
 }
 
 // An exclusive is no channel's.
-fn put_stroke(page: &mut [u8], used: usize, message: Message) -> usize {
-    if message.kind == 14 {
-        return put(page, used, b"#444");
+fn stroke(message: Message) -> &'static str {
+    match message.kind {
+        Kind::Exclusive => "#444",
+        _ => colour(message.channel),
     }
-    put_colour(page, used, message.channel)
 }
 
-fn draw_other(page: &mut [u8], used: usize, layout: Layout, message: Message, time: u64) -> usize {
-    let x = across(layout, time);
-    let used = put(page, used, b"<rect width=\"2\" height=\"14\" fill=\"");
-    let used = put_stroke(page, used, message);
-    let used = put_byte(page, used, b'"');
-    let used = put_pair(page, used, b"x", x);
-    let used = put_pair(page, used, b"y", tenths(layout.others));
-    put(page, used, b"/>\n")
+fn draw_other(page: &mut Page, layout: Layout, heard: Heard) -> fmt::Result {
+    writeln!(
+        page,
+        "<rect width=\"2\" height=\"14\" fill=\"{}\" x=\"{}\" y=\"{}.0\"/>",
+        stroke(heard.message),
+        Tenths(layout.across(heard.from)),
+        layout.others
+    )
 }
 
-fn draw_message(
-    page: &mut [u8],
-    used: usize,
-    layout: Layout,
-    bases: Bases,
-    message: Message,
-    row: u64,
-    time: u64,
-) -> usize {
-    if message.kind == 1 {
-        return draw_note(page, used, layout, bases, message, row, time);
+fn draw_message(page: &mut Page, layout: Layout, heard: Heard) -> fmt::Result {
+    match heard.message.kind {
+        Kind::Note => draw_note(page, layout, heard),
+        Kind::Wave => draw_wave(page, layout, heard),
+        _ => draw_other(page, layout, heard),
     }
-    if message.kind == 2 {
-        return draw_wave(page, used, layout, bases, message, time);
-    }
-    draw_other(page, used, layout, message, time)
 }
 
 pub fn draw_messages(
-    page: &mut [u8],
-    used: usize,
+    page: &mut Page,
     layout: Layout,
     bases: Bases,
     steps: &[u64],
     words: &[u32],
     count: usize,
-) -> usize {
-    let mut now = used;
-    let mut shifts = no_shifts();
-    let mut i: usize = 0;
-    while i < count {
-        if steps.len() <= i || words.len() <= i {
-            return now;
-        }
-        let message = message_of(words[i]);
-        let time = milliseconds(steps[i], bases.step);
-        now = draw_message(
-            page,
-            now,
-            layout,
-            bases,
+) -> fmt::Result {
+    let mut shifts = Shifts::none();
+    for (step, word) in steps.iter().zip(words).take(count) {
+        let message = Message::of(*word);
+        let from = milliseconds(*step, bases.step);
+        let heard = Heard {
             message,
-            row_of(shifts, message),
-            time,
-        );
-        shifts = shifts_after(shifts, message);
-        i += 1;
+            row: shifts.row_of(message),
+            from,
+            to: from.saturating_add(milliseconds(message.gate, bases.gate)),
+        };
+        draw_message(page, layout, heard)?;
+        shifts = shifts.after(message);
     }
-    now
+    Ok(())
 }

@@ -8,14 +8,15 @@ use lib.ListN.{length, take}
 use native.Mathlib.Nat.{add-zero, zero-add, add_assoc}
 use native.Mathlib.Omega.{arith}
 use borrow.Author.Tests.{ltb-false}
-use Rattle.model.specs.Words.{when◌then◌else◌, ◌<?◌, sum, Step.met}
+use Rattle.model.specs.Words.{when◌then◌else◌, ◌<?◌, sum, Step.met, refused}
 use Rattle.model.specs.Bytes.{◌!◌}
 use Rattle.model.specs.Item.{Item, Item.timed, Item.end_mark, duration_of, lasting, item_at, item_step, body_of, is_fine, items_of}
 use Rattle.model.specs.Play.{At, onsets_after, with_message, messages_of}
 use Rattle.model.specs.Word.{is_message}
 use Rattle.model.specs.declared.Voice.{Voice}
 use Rattle.model.specs.declared.Event.{Event}
-use Rattle.model.specs.declared.ReadItem.TheVariants.{Timed, EndMark, Refused}
+use Rattle.std.specs.Prelude.{Ok}
+use Rattle.model.specs.declared.ReadItem.TheVariants.{Timed, EndMark}
 use Rattle.model.specs.declared.Span.{Span}
 use Rattle.model.proofs.Tests.{by_test}
 use Rattle.model.proofs.Walks.{stand_first, stand_never_stuck, stand_over}
@@ -180,7 +181,7 @@ module _ (voice : Voice) (s : List ℕ) (start place time : ℕ) (a : Ahead voic
           opened.1,
         )
 
-  module _ (duration next : ℕ) (event : Event) (e : item_at voice s place ≡ Timed duration event next) where
+  module _ (duration next : ℕ) (event : Event) (e : item_at voice s place ≡ Ok (Timed duration event next)) where
     is_timed : item_step voice s place ≡ met (record { place = place; what = timed duration event }) next
     is_timed = timed_met voice s place (item_at voice s place) refl duration next event e
 
@@ -192,7 +193,7 @@ module _ (voice : Voice) (s : List ℕ) (start place time : ℕ) (a : Ahead voic
     unfolding duration_of
     timed_onward = onward (timed duration event) next is_timed (time + duration) refl
 
-  module _ (next : ℕ) (e : item_at voice s place ≡ EndMark next) where
+  module _ (next : ℕ) (e : item_at voice s place ≡ Ok (EndMark next)) where
     is_mark : item_step voice s place ≡ met (record { place = place; what = end_mark }) next
     is_mark = mark_met voice s place (item_at voice s place) refl next e
 
@@ -205,7 +206,7 @@ module _ (voice : Voice) (s : List ℕ) (start place time : ℕ) (a : Ahead voic
     mark_onward = onward end_mark next is_mark time (add-zero time)
 
   -- nothing that stands in a body that reads is refused
-  pub never_refused : (number there : ℕ) → place < length s → item_at voice s place ≡ Refused number there → ⊥
+  pub never_refused : (number there : ℕ) → place < length s → item_at voice s place ≡ refused number there → ⊥
   never_refused number there here e =
       stand_never_stuck (length s) (item_step voice s) place a.rest a.stands here number there
       (refused_stuck voice s place (item_at voice s place) refl number there e)

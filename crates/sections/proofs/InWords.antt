@@ -5,7 +5,7 @@ use mathlib.Core.List.{List}
 use lib.ListN.{length}
 use native.Mathlib.Omega.{arith}
 use borrow.Author.Tests.{ltb-true, leb-false, eqb-false}
-use Rattle.model.specs.Words.{◌<?◌, ◌≤?◌, ◌≡?◌}
+use Rattle.model.specs.Words.{◌<?◌, ◌≤?◌, ◌≡?◌, Checked}
 use Rattle.model.specs.Bytes.{◌!◌}
 use Rattle.model.specs.Duration.{duration_at, not_zero, gate_at}
 use Rattle.model.specs.Event.{is_sound, sound, gated, sound_at, long_kind, short_kind, has_kind, is_value, long_at, short_at, formed, control_at, closed_at, exclusive_at, system_at, event_at}
@@ -13,27 +13,26 @@ use Rattle.model.specs.Item.{is_end_mark, with_event, with_duration, item_at}
 use Rattle.model.specs.Word.{InWord}
 use Rattle.model.specs.declared.Voice.{Voice}
 use Rattle.model.specs.declared.Voice.TheVariants.{Score, Pcm}
-use Rattle.model.specs.declared.ReadDuration.{ReadDuration}
-use Rattle.model.specs.declared.ReadDuration.TheVariants as duration
-use Rattle.model.specs.declared.ReadEvent.{ReadEvent}
-use Rattle.model.specs.declared.ReadEvent.TheVariants as event
+use Rattle.std.specs.Prelude.{Ok, Err}
+use Rattle.model.specs.declared.Read.{Read}
+use Rattle.model.specs.declared.Event.{Event}
 use Rattle.model.specs.declared.ReadItem.{ReadItem}
-use Rattle.model.specs.declared.ReadItem.TheVariants.{Timed, EndMark, Refused}
+use Rattle.model.specs.declared.ReadItem.TheVariants.{Timed, EndMark}
 use Rattle.model.proofs.Tests.{if_all}
 use Rattle.model.proofs.Codes.{kind_from, kind_to}
 
-abbrev pub DurationShort : ReadDuration → Type 0
-DurationShort (duration.Is value next) = value ≤ 16511
-DurationShort (duration.Refused number place) = Unit
+abbrev pub DurationShort : Checked (Read ℕ) → Type 0
+DurationShort (Ok read) = read.what ≤ 16511
+DurationShort (Err why) = Unit
 
-abbrev EventInWord : ReadEvent → Type 0
-EventInWord (event.Is what next) = InWord what
-EventInWord (event.Refused number place) = Unit
+abbrev EventInWord : Checked (Read Event) → Type 0
+EventInWord (Ok read) = InWord read.what
+EventInWord (Err why) = Unit
 
-abbrev pub ItemInWord : ReadItem → Type 0
-ItemInWord (Timed duration what next) = (duration ≤ 16511) × InWord what
-ItemInWord (EndMark next) = Unit
-ItemInWord (Refused number place) = Unit
+abbrev pub ItemInWord : Checked ReadItem → Type 0
+ItemInWord (Ok (Timed duration what next)) = (duration ≤ 16511) × InWord what
+ItemInWord (Ok (EndMark next)) = Unit
+ItemInWord (Err why) = Unit
 
 module _ (s : List ℕ) (bytes : (k : ℕ) → s ! k < 256) where
   pub duration_short : (at : ℕ) → DurationShort (duration_at s at)
@@ -45,16 +44,16 @@ module _ (s : List ℕ) (bytes : (k : ℕ) → s ! k < 256) where
       (λ i. if_all DurationShort (length s ≤? at + 1) _ _ (λ j. tt)
       (λ j. if_all DurationShort (s ! (at + 1) <? 128) _ _ (λ k. omega (arith, ltb-true)) (λ k. tt))))
 
-  pub gate_short : (at : ℕ) (d : ReadDuration) → DurationShort d → DurationShort (not_zero at d)
+  pub gate_short : (at : ℕ) (d : Checked (Read ℕ)) → DurationShort d → DurationShort (not_zero at d)
   unfolding not_zero
-  gate_short at (duration.Is value next) h = if_all DurationShort (value ≡? 0) _ _ (λ i. tt) (λ i. h)
-  gate_short at (duration.Refused number place) h = tt
+  gate_short at (Ok read) h = if_all DurationShort (read.what ≡? 0) _ _ (λ i. tt) (λ i. h)
+  gate_short at (Err why) h = tt
 
-  gated_in_word : (voice : Voice) (byte : ℕ) (d : ReadDuration) → byte < 256 → DurationShort d → EventInWord (gated voice byte d)
+  gated_in_word : (voice : Voice) (byte : ℕ) (d : Checked (Read ℕ)) → byte < 256 → DurationShort d → EventInWord (gated voice byte d)
   unfolding gated sound
-  gated_in_word Score byte (duration.Is value next) h k = omega arith
-  gated_in_word Pcm byte (duration.Is value next) h k = omega arith
-  gated_in_word voice byte (duration.Refused number place) h k = tt
+  gated_in_word Score byte (Ok read) h k = omega arith
+  gated_in_word Pcm byte (Ok read) h k = omega arith
+  gated_in_word voice byte (Err why) h k = tt
 
   module _ (voice : Voice) (at : ℕ) where
     sound_in_word : EventInWord (sound_at voice s at)
@@ -114,15 +113,15 @@ module _ (s : List ℕ) (bytes : (k : ℕ) → s ! k < 256) where
         (λ h. if_all EventInWord (s ! at ≡? 0x00) _ _ (λ i. control_in_word voice at)
         (λ i. if_all EventInWord (s ! at ≡? 0xFF) _ _ (λ j. system_in_word at) (λ j. sound_in_word voice at)))
 
-    with_event_lem : (value : ℕ) (e : ReadEvent) → value ≤ 16511 → EventInWord e → ItemInWord (with_event value e)
+    with_event_lem : (value : ℕ) (e : Checked (Read Event)) → value ≤ 16511 → EventInWord e → ItemInWord (with_event value e)
     unfolding with_event
-    with_event_lem value (event.Is what next) h k = (h, k)
-    with_event_lem value (event.Refused number place) h k = tt
+    with_event_lem value (Ok read) h k = (h, k)
+    with_event_lem value (Err why) h k = tt
 
-    with_duration_lem : (voice : Voice) (d : ReadDuration) → DurationShort d → ItemInWord (with_duration voice s d)
+    with_duration_lem : (voice : Voice) (d : Checked (Read ℕ)) → DurationShort d → ItemInWord (with_duration voice s d)
     unfolding with_duration
-    with_duration_lem voice (duration.Is value next) h = with_event_lem value (event_at voice s next) h (event_in_word voice next)
-    with_duration_lem voice (duration.Refused number place) h = tt
+    with_duration_lem voice (Ok read) h = with_event_lem read.what (event_at voice s read.next) h (event_in_word voice read.next)
+    with_duration_lem voice (Err why) h = tt
 
     pub item_in_word : (voice : Voice) (at : ℕ) → ItemInWord (item_at voice s at)
     unfolding item_at

@@ -3,7 +3,7 @@
 use Prim.Native.Nat.{ℕ, ◌*◌, ◌≤◌}
 use mathlib.Core.Bool.{Bool, true, false}
 use mathlib.Core.List.{List, [], ◌∷◌, map}
-use mathlib.Core.Option.{Option, none, some}
+use Rattle.std.specs.Prelude.{Option, None, Some}
 use mathlib.Core.Path.{◌≡◌, refl, subst}
 use lib.ListN.{length, length-take, length-drop}
 use native.Mathlib.Omega.{arith}
@@ -41,13 +41,13 @@ short_sum items short test (section ∷ sections) each =
 module _ (items : Items) where
   stream_short : (start : ℕ) (stop : Option ℕ) → (stream_section items start stop).lasts ≤ lasting items
   unfolding stream_section between time_of
-  stream_short start none = omega arith
-  stream_short start (some stop) = omega (arith, kept_lasting (λ item. item.place <? stop) items)
+  stream_short start None = omega arith
+  stream_short start (Some stop) = omega (arith, kept_lasting (λ item. item.place <? stop) items)
 
   phrase_short : (addresses : Option Addresses) → (phrase_section items addresses).lasts ≤ lasting items
   unfolding phrase_section between time_of
-  phrase_short none = omega arith
-  phrase_short (some addresses) = omega (arith, kept_lasting (λ item. item.place <? addresses.to) items)
+  phrase_short None = omega arith
+  phrase_short (Some addresses) = omega (arith, kept_lasting (λ item. item.place <? addresses.to) items)
 
   letters_short : (entries : List (Placed Entry)) (letters : List ℕ) → EachShort items (map (λ letter. phrase_section items (phrase_of letter entries)) letters)
   letters_short entries [] = tt
@@ -64,15 +64,15 @@ module _ (items : Items) where
 
   -- an order has no more sections than a file has bytes, and none of them would last longer than all items
   order_short : (phrases : Bool) (entries : List (Placed Entry)) (sections : List Section)
-      → ((letters : List ℕ) → phrases ≡ true → order_list entries ≡ some letters → length letters ≤ 65536)
-      → order_of phrases items entries ≡ some sections → EachShort items sections × (length sections ≤ 65536)
+      → ((letters : List ℕ) → phrases ≡ true → order_list entries ≡ Some letters → length letters ≤ 65536)
+      → order_of phrases items entries ≡ Some sections → EachShort items sections × (length sections ≤ 65536)
   unfolding order_of phrase_order
   order_short true entries sections few e = go (order_list entries) refl e
     where
-      go : (order : Option (List ℕ)) → order_list entries ≡ order → phrase_order items entries order ≡ some sections
+      go : (order : Option (List ℕ)) → order_list entries ≡ order → phrase_order items entries order ≡ Some sections
           → EachShort items sections × (length sections ≤ 65536)
-      go none is q = let z : ◌≡◌ {A = ℕ} 0 1 = cc in absurd (omega arith)
-      go (some letters) is q =
+      go None is q = let z : ◌≡◌ {A = ℕ} 0 1 = cc in absurd (omega arith)
+      go (Some letters) is q =
           let played = letters_played entries letters in
           let same : map (λ letter. phrase_section items (phrase_of letter entries)) played ≡ sections = cc in
           subst (λ (l : List Section). EachShort items l × (length l ≤ 65536)) same
@@ -82,8 +82,8 @@ module _ (items : Items) where
       subst (λ (l : List Section). EachShort items l × (length l ≤ 65536)) same
       ((stream_short (start_point entries otherwise 0) (stop_point entries), tt), omega arith)
 
-pub tune_short : (track : Track) (sections : List Section) → play_order track ≡ some sections → lasting track.items ≤ longest_body
-    → ((letters : List ℕ) → track.phrases ≡ true → order_list track.entries ≡ some letters → length letters ≤ 65536)
+pub tune_short : (track : Track) (sections : List Section) → play_order track ≡ Some sections → lasting track.items ≤ longest_body
+    → ((letters : List ℕ) → track.phrases ≡ true → order_list track.entries ≡ Some letters → length letters ≤ 65536)
     → (tune_in track sections).end ≤ 70914205024256
 unfolding play_order tune_in tune_of sections_played all_played
 tune_short track sections e short few =

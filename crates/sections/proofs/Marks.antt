@@ -3,7 +3,7 @@
 use Prim.Native.Nat.{ℕ, ◌+◌, ◌-◌, ◌<◌, ◌≤◌}
 use mathlib.Core.Bool.{true, false}
 use mathlib.Core.List.{[], ◌∷◌, ◌++◌}
-use mathlib.Core.Option.{none, some}
+use Rattle.std.specs.Prelude.{None, Some}
 use mathlib.Core.Path.{◌≡◌, refl, sym, ◌∙◌, ap}
 use native.Mathlib.Nat.{add_assoc, add-zero, zero-add}
 use native.Mathlib.Omega.{arith}
@@ -52,7 +52,7 @@ not_from place item h = by_test (is_mark item.what) (λ t. simp (t, lt-leb)) (λ
 
 -- WITH A STOP
 
-module _ (section : Section) (bound : ℕ) (stops : section.to ≡ some bound) where
+module _ (section : Section) (bound : ℕ) (stops : section.to ≡ Some bound) where
   -- a mark counts where it stands from the start address on and is below the bound
   reaches_below : (item : Placed (Item Event)) (onset : ℕ) → onset < bound
       → reaches section (record { step = onset; event = item }) ≡ mark_from section.address item
@@ -105,7 +105,7 @@ module _ (section : Section) (bound : ℕ) (stops : section.to ≡ some bound) w
   pub record Cut (past : ℕ) (front rest : Items) : Type 0 where
     pub items : through (reaches section) (onsets_after past (front ++ rest)) ≡ onsets_after past (items_through section.address front)
     pub mark : At (Placed (Item Event))
-    pub is : first (reaches section) (onsets_after past (front ++ rest)) ≡ some mark
+    pub is : first (reaches section) (onsets_after past (front ++ rest)) ≡ Some mark
     pub onset : mark.step ≡ past + lasting (items_through section.address front)
 
   pub reached : (past : ℕ) (front rest : Items) → bound ≡ past + lasting front
@@ -137,7 +137,7 @@ module _ (section : Section) (bound : ℕ) (stops : section.to ≡ some bound) w
 
 -- WITHOUT A STOP any mark from the start address on counts
 
-module _ (section : Section) (stops : section.to ≡ none) where
+module _ (section : Section) (stops : section.to ≡ None) where
   reaches_any : (item : Placed (Item Event)) (onset : ℕ) → reaches section (record { step = onset; event = item }) ≡ mark_from section.address item
   unfolding reaches mark_from is_below ◌and◌
   reaches_any item onset =

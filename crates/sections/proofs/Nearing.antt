@@ -9,15 +9,16 @@ use native.Mathlib.Nat.{zero-add}
 use native.Mathlib.Decide.{dec_lt}
 use native.Mathlib.Omega.{arith}
 use borrow.Author.Tests.{lt-ltb, ltb-true, eq-eqb, ne_eqb, eqb-true, eqb-false}
-use Rattle.model.specs.Words.{when◌then◌else◌, ◌and◌, ◌or◌, ◌<?◌, ◌≤?◌, ◌≡?◌, any, keep, through, Placed, Step.met, Step.stuck}
+use Rattle.model.specs.Words.{when◌then◌else◌, ◌and◌, ◌or◌, ◌<?◌, ◌≤?◌, ◌≡?◌, any, keep, through, Placed, Step.met, Step.stuck, Checked}
 use Rattle.model.specs.Item.{Item, Item.timed, Item.end_mark, duration_of, is_mark, item_at, item_step, body_of, is_fine, items_of}
 use Rattle.model.specs.Play.{At, with_message}
 use Rattle.model.specs.Points.{is_address}
 use Rattle.model.specs.Word.{is_message, word_of, InWord}
 use Rattle.model.specs.declared.Voice.{Voice}
 use Rattle.model.specs.declared.Event.{Event}
+use Rattle.std.specs.Prelude.{Ok, Err}
 use Rattle.model.specs.declared.ReadItem.{ReadItem}
-use Rattle.model.specs.declared.ReadItem.TheVariants.{Timed, EndMark, Refused}
+use Rattle.model.specs.declared.ReadItem.TheVariants.{Timed, EndMark}
 use Rattle.model.specs.declared.Reached.{Reached}
 use Rattle.model.proofs.Tests.{by_test}
 use Rattle.model.proofs.Picking.{any_append, through_none, through_append, through_here}
@@ -197,18 +198,6 @@ module _ (voice : Voice) (s : List ℕ) where
     within : r.at ≤ 65536
     within = omega (arith, stands_within voice s r.at n.rest n.walking.stands, n.body)
 
-    pub near_time : r.time ≤ 281474976710656
-    near_time = omega (arith, within, n.small)
-
-    pub near_few : r.messages ≤ 65536
-    near_few = omega (arith, within, n.walking.few)
-
-    pub near_bytes : AllBytes s
-    near_bytes = n.bytes
-
-    pub near_body : length s ≤ 65536
-    near_body = n.body
-
     module _ (before : r.at < address) (is : is_address all (length s) address ≡ true) where
       -- an item stands at the place
       abbrev First : Type 0
@@ -321,22 +310,22 @@ module _ (voice : Voice) (s : List ℕ) where
         unfolding duration_of heard_in heard_by is_mark ItemAgrees when◌then◌else◌
         took = go (item_at voice s r.at) refl agrees (item_in_word s n.bytes n.body voice r.at)
           where
-            go : (j : ReadItem) → item_at voice s r.at ≡ j → ItemAgrees taken j → ItemInWord j → (what : Item Event) × Further what z × (is_mark what ≡ taken.mark)
-            go (Timed duration event next) e a fits = (
+            go : (j : Checked ReadItem) → item_at voice s r.at ≡ j → ItemAgrees taken j → ItemInWord j → (what : Item Event) × Further what z × (is_mark what ≡ taken.mark)
+            go (Ok (Timed duration event next)) e a fits = (
               timed duration event,
               further (timed duration event) next z (timed_met voice s r.at _ refl duration next event e) (omega (arith, fits.0))
                   (q ∙ ap (λ (t : Taken). passed_by r t.duration (heard_by t.word) t.next) a
                   ∙ ap (λ (heard : ℕ). passed_by r duration heard next) (word_heard event fits.1)),
               ap (λ (t : Taken). t.mark) (sym a),
             )
-            go (EndMark next) e a fits = (
+            go (Ok (EndMark next)) e a fits = (
               end_mark,
               further end_mark next z (mark_met voice s r.at _ refl next e) (omega arith)
                   (q ∙ ap (λ (t : Taken). passed_by r t.duration (heard_by t.word) t.next) a),
               ap (λ (t : Taken). t.mark) (sym a),
             )
-            go (Refused number place) e a fits =
-                let both : met first.0 first.2.stands.0 ≡ stuck number place = sym first.2.stands.1 ∙ refused_stuck voice s r.at _ refl number place e in
+            go (Err why) e a fits =
+                let both : met first.0 first.2.stands.0 ≡ stuck why.number why.place = sym first.2.stands.1 ∙ refused_stuck voice s r.at _ refl why.number why.place e in
                 let zero : ◌≡◌ {A = ℕ} 0 1 = cc in
                 absurd (omega arith)
 
@@ -364,4 +353,4 @@ module _ (voice : Voice) (s : List ℕ) where
           mark_after here = (ends here).1
 
 pub ruleset nearing =
-    (near_after, near_there, near_time, near_few, near_bytes, near_body, near_over, near_on, on_nears, mark_arrives, mark_after)
+    (near_after, near_there, near_over, near_on, on_nears, mark_arrives, mark_after)

@@ -3,7 +3,7 @@
 use Prim.Native.Nat.{ℕ, ◌+◌, ◌-◌, ◌*◌, ◌/◌, ◌<◌, ◌≤◌}
 use mathlib.Core.Bool.{true}
 use mathlib.Core.List.{List, map}
-use mathlib.Core.Option.{none}
+use Rattle.std.specs.Prelude.{None}
 use mathlib.Core.Path.{◌≡◌, refl, sym, ◌∙◌, ap, subst}
 use lib.ListN.{length, take}
 use lib.Seq.{sets, take_all}
@@ -40,7 +40,7 @@ module _ (voice : Voice) (s : List ℕ) (fine : is_fine (body_of voice s) ≡ tr
   stand = body_stands voice s all (reads_to_items voice s fine)
 
   abbrev section : Section
-  section = stream_section all from.at none
+  section = stream_section all from.at None
 
   -- what is heard of the body
   abbrev heard : Items
@@ -119,7 +119,7 @@ module _ (voice : Voice) (s : List ℕ) (fine : is_fine (body_of voice s) ≡ tr
       whole : written.time ≡ lasting heard
       whole =
           let size : bound.messages ≡ length s = ap (λ (span : Span). span.messages) is in
-          let some = body_not_empty voice s all (reads_to_items voice s fine) in
+          let Some = body_not_empty voice s all (reads_to_items voice s fine) in
           ended.time (omega (arith, many, thirds))
 
       pub onward_later : from.time ≤ written.time

@@ -5,13 +5,14 @@ use mathlib.Core.Path.{◌≡◌, refl, sym, ap, subst}
 use lib.ListN.{length}
 use native.Mathlib.Omega.{arith}
 use borrow.Author.Tests.{le-leb, lt-leb}
-use Rattle.model.specs.Words.{when◌then◌else◌, ◌<?◌, keep, Placed, Step.met}
+use Rattle.model.specs.Words.{when◌then◌else◌, ◌<?◌, keep, Placed, Step.met, Checked}
 use Rattle.model.specs.Bytes.{◌!◌}
 use Rattle.model.specs.Item.{Item, Item.timed, Item.end_mark, duration_of, item_at, item_met, item_step}
 use Rattle.model.specs.declared.Voice.{Voice}
 use Rattle.model.specs.declared.Event.{Event}
+use Rattle.std.specs.Prelude.{Ok, Err}
 use Rattle.model.specs.declared.ReadItem.{ReadItem}
-use Rattle.model.specs.declared.ReadItem.TheVariants.{Timed, EndMark, Refused}
+use Rattle.model.specs.declared.ReadItem.TheVariants.{Timed, EndMark}
 use Rattle.model.proofs.Tests.{by_test}
 use Rattle.model.proofs.Walks.{Stand}
 use Rattle.items.proofs.Addresses.{placed_at, stands_ahead}
@@ -88,15 +89,15 @@ module _ (voice : Voice) (s : List ℕ) where
 
   -- an item takes at most the longest duration
   module _ (bytes : (k : ℕ) → s ! k < 256) (small : length s ≤ 65536) where
-    met_short : (at : ℕ) (j : ReadItem) (item : Placed (Item Event)) (next : ℕ) → ItemInWord j → item_met at j ≡ met item next → duration_of item.what ≤ 16511
+    met_short : (at : ℕ) (j : Checked ReadItem) (item : Placed (Item Event)) (next : ℕ) → ItemInWord j → item_met at j ≡ met item next → duration_of item.what ≤ 16511
     unfolding item_met duration_of
-    met_short at (Timed duration event n) item next h e =
+    met_short at (Ok (Timed duration event n)) item next h e =
         let same : ◌≡◌ {A = Placed (Item Event)} (record { place = at; what = timed duration event }) item = cc in
         subst (λ (i : Placed (Item Event)). duration_of i.what ≤ 16511) same h.0
-    met_short at (EndMark n) item next h e =
+    met_short at (Ok (EndMark n)) item next h e =
         let same : ◌≡◌ {A = Placed (Item Event)} (record { place = at; what = end_mark }) item = cc in
         subst (λ (i : Placed (Item Event)). duration_of i.what ≤ 16511) same (omega arith)
-    met_short at (Refused number place) item next h e = let z : ◌≡◌ {A = ℕ} 0 1 = cc in absurd (omega arith)
+    met_short at (Err why) item next h e = let z : ◌≡◌ {A = ℕ} 0 1 = cc in absurd (omega arith)
 
     pub item_short : (at : ℕ) (item : Placed (Item Event)) (next : ℕ) → item_step voice s at ≡ met item next → duration_of item.what ≤ 16511
     unfolding item_step

@@ -1,11 +1,11 @@
 -- A SECTION PLAYED AGAIN: its rows are those that stand in the tables, each as much later as has been played since.
 use Prim.Native.Nat.{ℕ, zero, suc, ◌+◌, ◌-◌, ◌<◌, ◌≤◌}
-use mathlib.Core.Bool.{true}
 use mathlib.Core.List.{List, [], ◌∷◌, map}
 use mathlib.Core.Path.{◌≡◌, refl, ◌∙◌, ap, ap₂}
-use lib.ListN.{length, take, length-map}
-use lib.Seq.{sets}
+use lib.ListN.{length, take, drop, length-map}
+use lib.Seq.{paste, sets}
 use native.Mathlib.Omega.{arith}
+use Rattle.std.specs.Prelude.{Option}
 use Rattle.model.specs.Bytes.{◌!◌, part}
 use Rattle.model.specs.Play.{At}
 use Rattle.model.specs.Word.{word_of}
@@ -13,8 +13,8 @@ use Rattle.model.specs.declared.Event.{Event}
 use Rattle.model.specs.declared.Span.{Span}
 use Rattle.sections.specs.declared.Standing.{Standing}
 use Rattle.sections.specs.Spans.{Items, messages_after, items_from, counted, span_rows, steps_of, words_of, Rising}
-use Rattle.sections.specs.Again.{later, AllFit, standing_at, Stored, StoredWhereKnown}
-use Rattle.sections.proofs.Copying.{part_before, part_stored}
+use Rattle.sections.specs.Again.{later, standing_at, Stored, StoredWhereKnown}
+use Rattle.sections.proofs.Copying.{part_copied, part_before, part_stored}
 
 counted_later : (first before start : ℕ) (rows : List (At Event)) → first ≤ before
     → later (before - first) (steps_of (map (counted first start) rows)) ≡ steps_of (map (counted before start) rows)
@@ -38,32 +38,24 @@ module _ (items : Items) (span : Span) (first before : ℕ) where
   unfolding span_rows
   rows_words = counted_words first before span.start (take span.messages (messages_after span.past (items_from span.first items)))
 
-module _ (items : Items) (span : Span) (standing : Standing) (steps words : List ℕ) (at before : ℕ) (known : StoredWhereKnown items span standing steps words at before)
-    (flag : standing.known ≡ true) where
-  stored : Stored items span standing steps words at before
-  stored = known flag
-
+module _ (items : Items) (span : Span) (standing : Standing) (steps words : List ℕ) (at before : ℕ) (stored : Stored items span standing steps words at before) where
   pub again_behind : standing.row + span.messages ≤ at
   again_behind = stored.inside
 
   pub again_past : standing.before ≤ before
   again_past = stored.past
 
-  pub again_fits : before + span.lasts ≤ 4611686018427387904 → AllFit (before - standing.before) (part steps standing.row span.messages)
-  again_fits early i h =
-      let is = stored.steps_stand in
-      let low = stored.low i (rw is at h) in
-      rw is (omega (arith, low, stored.past))
-
   pub again_steps : (m : List ℕ) → m ≡ sets steps at (later (before - standing.before) (part steps standing.row span.messages))
       → m ≡ sets steps at (steps_of (span_rows items span before))
   again_steps m e =
       e ∙ ap (sets steps at) (ap (later (before - standing.before)) stored.steps_stand ∙ rows_later items span standing.before before stored.past)
 
-  pub again_words : (m : List ℕ) → m ≡ sets words at (part words standing.row span.messages) → m ≡ sets words at (words_of (span_rows items span before))
-  again_words m e = e ∙ ap (sets words at) (stored.words_stand ∙ rows_words items span standing.before before)
+  pub again_words : (m : List ℕ) → at + span.messages ≤ length words
+      → m ≡ paste words at (drop standing.row words) (standing.row + span.messages - standing.row)
+      → m ≡ sets words at (words_of (span_rows items span before))
+  again_words m room e = part_copied words m standing.row span.messages at stored.inside room e ∙ ap (sets words at) (stored.words_stand ∙ rows_words items span standing.before before)
 
-pub ruleset again = (again_behind, again_past, again_fits, again_steps, again_words)
+pub ruleset again = (again_behind, again_past, again_steps, again_words)
 
 -- what is known stays known when more is stored behind it, and what was stored is known
 
@@ -78,11 +70,11 @@ steps_low low high (row ∷ rows) rises zero h = rising_low row.step high rows r
 steps_low low high (row ∷ rows) rises (suc i) h = steps_low row.step high rows rises.1 i (omega arith)
 
 module _ (items : Items) (span : Span) (steps words : List ℕ) (at before : ℕ) where
-  pub stored_kept : (standing : Standing) (more words_more : List ℕ) (past later-on : ℕ) → at ≤ past → before ≤ later-on
-      → StoredWhereKnown items span standing steps words at before
-      → StoredWhereKnown items span standing (sets steps at more) (sets words at words_more) past later-on
-  stored_kept standing more words_more past later-on h k known flag =
-      let s = known flag in
+  pub stored_kept : (known : Option Standing) (more words_more : List ℕ) (past later-on : ℕ) → at ≤ past → before ≤ later-on
+      → StoredWhereKnown items span known steps words at before
+      → StoredWhereKnown items span known (sets steps at more) (sets words at words_more) past later-on
+  stored_kept known more words_more past later-on h k where_known standing is =
+      let s = where_known standing is in
       record {
         inside = omega (arith, s.inside);
         past = omega (arith, s.past);

@@ -10,14 +10,15 @@ use native.Mathlib.Nat.{add-zero}
 use native.Mathlib.Numerals.{add-one}
 use native.Mathlib.Omega.{arith}
 use Rattle.model.specs.Bytes.{◌!◌}
-use Rattle.model.specs.Words.{◌and◌, ◌≤?◌, through, sum}
+use Rattle.model.specs.Words.{◌and◌, ◌≤?◌, through, sum, Checked}
 use Rattle.model.specs.Item.{Item, Item.timed, Item.end_mark, duration_of, is_mark, lasting, item_at, body_of, is_fine, items_of}
 use Rattle.model.specs.Play.{At}
 use Rattle.model.specs.Word.{is_message, word_of, InWord}
 use Rattle.model.specs.declared.Voice.{Voice}
 use Rattle.model.specs.declared.Event.{Event}
+use Rattle.std.specs.Prelude.{Ok, Err}
 use Rattle.model.specs.declared.ReadItem.{ReadItem}
-use Rattle.model.specs.declared.ReadItem.TheVariants.{Timed, EndMark, Refused}
+use Rattle.model.specs.declared.ReadItem.TheVariants.{Timed, EndMark}
 use Rattle.model.specs.declared.Span.{Span}
 use Rattle.model.proofs.Picking.{through_here, through_on}
 use Rattle.items.proofs.Addresses.{timed_nears, mark_nears, reads_to_items}
@@ -160,7 +161,7 @@ module _ (voice : Voice) (s : List ℕ) (span : Span) (marks before : ℕ) (l m 
     unfolding lasting sum
     lasts_on h = let all = ap (λ (items : Items). time + lasting items) opened in omega (arith, all, r.lasts)
 
-  module _ (duration next : ℕ) (event : Event) (e : item_at voice s place ≡ Timed duration event next) where
+  module _ (duration next : ℕ) (event : Event) (e : item_at voice s place ≡ Ok (Timed duration event next)) where
     onward : Onward voice s span.start place time r.walk (timed duration event) next (time + duration)
     onward = timed_onward voice s span.start place time r.walk duration next event e
 
@@ -224,7 +225,7 @@ module _ (voice : Voice) (s : List ℕ) (span : Span) (marks before : ℕ) (l m 
           }
 
   -- an end mark, which a walk passes or where it ends
-  module _ (next : ℕ) (e : item_at voice s place ≡ EndMark next) where
+  module _ (next : ℕ) (e : item_at voice s place ≡ Ok (EndMark next)) where
     on_mark : Onward voice s span.start place time r.walk end_mark next time
     on_mark = mark_onward voice s span.start place time r.walk next e
 
@@ -260,15 +261,15 @@ module _ (voice : Voice) (s : List ℕ) (span : Span) (marks before : ℕ) (l m 
   -- an item that is taken as plain numbers
   module _ (taken : Taken) (here : place < length s) (agrees : ItemAgrees taken (item_at voice s place)) where
     by_cases : (X : Taken → Type 0)
-        → ((duration next : ℕ) (event : Event) → item_at voice s place ≡ Timed duration event next → X (taken_as next duration (word_of event)))
-        → ((next : ℕ) → item_at voice s place ≡ EndMark next → X (taken_mark next 0)) → X taken
+        → ((duration next : ℕ) (event : Event) → item_at voice s place ≡ Ok (Timed duration event next) → X (taken_as next duration (word_of event)))
+        → ((next : ℕ) → item_at voice s place ≡ Ok (EndMark next) → X (taken_mark next 0)) → X taken
     unfolding ItemAgrees
     by_cases X timed-so marked-so = go (item_at voice s place) refl agrees
       where
-        go : (j : ReadItem) → item_at voice s place ≡ j → ItemAgrees taken j → X taken
-        go (Timed duration event next) e a = subst X (sym a) (timed-so duration next event e)
-        go (EndMark next) e a = subst X (sym a) (marked-so next e)
-        go (Refused number there) e a = absurd (never_refused voice s span.start place time r.walk number there here e)
+        go : (j : Checked ReadItem) → item_at voice s place ≡ j → ItemAgrees taken j → X taken
+        go (Ok (Timed duration event next)) e a = subst X (sym a) (timed-so duration next event e)
+        go (Ok (EndMark next)) e a = subst X (sym a) (marked-so next e)
+        go (Err why) e a = absurd (never_refused voice s span.start place time r.walk why.number why.place here e)
 
     pub took_nears : length s - taken.next < length s - place
     took_nears =
@@ -295,11 +296,11 @@ module _ (voice : Voice) (s : List ℕ) (span : Span) (marks before : ℕ) (l m 
           none (sym so ∙ off)
 
       module _ (on : flag ≡ true) where
-        at_mark : (next : ℕ) × (item_at voice s place ≡ EndMark next) × ((marks ≤? place) ≡ true) × (time + taken.duration ≡ time)
+        at_mark : (next : ℕ) × (item_at voice s place ≡ Ok (EndMark next)) × ((marks ≤? place) ≡ true) × (time + taken.duration ≡ time)
         unfolding ◌and◌
         at_mark =
             by_cases (λ taken. (taken.mark and (marks ≤? place)) ≡ true
-            → (next : ℕ) × (item_at voice s place ≡ EndMark next) × ((marks ≤? place) ≡ true) × (time + taken.duration ≡ time))
+            → (next : ℕ) × (item_at voice s place ≡ Ok (EndMark next)) × ((marks ≤? place) ≡ true) × (time + taken.duration ≡ time))
             (λ duration next event e on. absurd (false≢true on))
             (λ next e on. (next, e, on, add-zero time))
             (sym so ∙ on)

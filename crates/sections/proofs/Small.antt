@@ -2,7 +2,7 @@
 use Prim.Native.Nat.{ℕ, ◌+◌, ◌*◌, ◌<◌, ◌≤◌}
 use mathlib.Core.Bool.{Bool, true}
 use mathlib.Core.List.{List, [], ◌∷◌}
-use mathlib.Core.Option.{none}
+use Rattle.std.specs.Prelude.{None}
 use mathlib.Core.Path.{◌≡◌, sym, subst}
 use lib.ListN.{length}
 use native.Mathlib.Omega.{arith}
@@ -76,4 +76,4 @@ module _ (voice : Voice) (s : List ℕ) where
 
       pub stream_small : (r : Span) (start : ℕ) → r ≡ span_from (items_of voice s) (length s) start → Small (length s) r
       unfolding stream_section
-      stream_small r start e = subst (Small (length s)) (sym e) (section_small (stream_section (items_of voice s) start none) (omega arith))
+      stream_small r start e = subst (Small (length s)) (sym e) (section_small (stream_section (items_of voice s) start None) (omega arith))

@@ -3,7 +3,7 @@
 use Prim.Native.Nat.{ℕ, ◌+◌, ◌-◌, ◌<◌, ◌≤◌}
 use mathlib.Core.Bool.{Bool, true, false}
 use mathlib.Core.List.{List, [], ◌∷◌, ◌++◌, append-nil}
-use mathlib.Core.Option.{none, some}
+use Rattle.std.specs.Prelude.{None, Some}
 use mathlib.Core.Path.{◌≡◌, refl, sym, ◌∙◌, ap, ap₂, subst}
 use lib.ListN.{length}
 use native.Mathlib.Omega.{arith}
@@ -259,7 +259,7 @@ module _ (voice : Voice) (s : List ℕ) where
       unfolding between
       starts = refl
 
-      bounded : section.to ≡ some (time_of all stop)
+      bounded : section.to ≡ Some (time_of all stop)
       unfolding between
       bounded = refl
 
@@ -314,7 +314,7 @@ module _ (voice : Voice) (s : List ℕ) where
         unfolding between
         cut_onsets = ap (λ (l : Items). through (reaches section) (onsets_after 0 l)) rest.1 ∙ cut_here.items
 
-        mark_met : first (reaches section) (onsets_after 0 all) ≡ some cut_here.mark
+        mark_met : first (reaches section) (onsets_after 0 all) ≡ Some cut_here.mark
         mark_met = ap (λ (l : Items). first (reaches section) (onsets_after 0 l)) rest.1 ∙ cut_here.is
 
         all_below : keep (below section.to) (onsets_after 0 walked) ≡ onsets_after 0 walked
@@ -379,7 +379,7 @@ module _ (voice : Voice) (s : List ℕ) where
     -- TO THE BODY'S END, or through the first mark from there on
     module _ (fine : is_fine (body_of voice s) ≡ true) (to : Reached) (walk : Arrived all (length s) start (length s) to) (after : from.at ≤ to.at) where
       abbrev unstopped : Section
-      unstopped = stream_section all start none
+      unstopped = stream_section all start None
 
       abbrev heard : Items
       heard = items_through start (items_to (length s) all)
@@ -388,7 +388,7 @@ module _ (voice : Voice) (s : List ℕ) where
       unfolding stream_section
       begins = refl
 
-      endless : unstopped.to ≡ none
+      endless : unstopped.to ≡ None
       unfolding stream_section
       endless = refl
 

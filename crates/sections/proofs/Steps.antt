@@ -2,7 +2,7 @@
 use Prim.Native.Nat.{ℕ, ◌+◌, ◌-◌, ◌≤◌}
 use mathlib.Core.Bool.{Bool, true}
 use mathlib.Core.List.{List, [], ◌∷◌, map}
-use mathlib.Core.Option.{Option, none}
+use Rattle.std.specs.Prelude.{Option, None}
 use mathlib.Core.Path.{◌≡◌, ◌∙◌, ap}
 use native.Mathlib.Omega.{arith}
 use borrow.Author.Tests.{ltb-true}
@@ -83,12 +83,12 @@ between_rises before start stop items =
 
 -- a stream without a stop point
 pub stream_rises : (before start : ℕ) (items : Items)
-    → Rising before (before + lasts_in (onsets_after 0 items) (stream_section items start none)) (sounding is_message (onsets_after 0 items) before (stream_section items start none))
+    → Rising before (before + lasts_in (onsets_after 0 items) (stream_section items start None)) (sounding is_message (onsets_after 0 items) before (stream_section items start None))
 unfolding stream_section
-stream_rises before start items = rises before (stream_section items start none) items (λ onset h w. omega arith)
+stream_rises before start items = rises before (stream_section items start None) items (λ onset h w. omega arith)
 
 -- without bounds every message plays, up to the first mark from the start address on
-pub all_within : (section : Section) (items : Items) → section.from ≡ 0 → section.to ≡ none
+pub all_within : (section : Section) (items : Items) → section.from ≡ 0 → section.to ≡ None
     → messages_within section items ≡ messages_after 0 (items_through section.address items)
 unfolding items_within
 all_within section items start stop =

@@ -3,7 +3,7 @@
 use Prim.Native.Nat.{ℕ, ◌+◌, ◌<◌, ◌≤◌}
 use mathlib.Core.List.{List, [], ◌∷◌, map}
 use mathlib.Core.Bool.{Bool, true}
-use mathlib.Core.Option.{Option, none, some}
+use Rattle.std.specs.Prelude.{Option, None, Some}
 use mathlib.Core.Path.{◌≡◌, refl, sym, ◌∙◌, ap}
 use lib.ListN.{length, take, length-take, length-map}
 use lib.Seq.{take-length, take-take}
@@ -60,7 +60,7 @@ kept_since section past (item ∷ items) =
     (kept_after section (past + duration_of item.what) items late)))
 
 -- past a bound nothing is kept
-pub none_kept : (bound past : ℕ) (items : Items) → bound ≤ past → keep (below (some bound)) (onsets_after past items) ≡ []
+pub none_kept : (bound past : ℕ) (items : Items) → bound ≤ past → keep (below (Some bound)) (onsets_after past items) ≡ []
 unfolding keep onsets_after is_below when◌then◌else◌
 none_kept bound past [] h = refl
 none_kept bound past (item ∷ items) h =
@@ -68,7 +68,7 @@ none_kept bound past (item ∷ items) h =
     simp le-ltb (none_kept bound (past + duration_of item.what) items over)
 
 -- before a bound all is
-pub below_kept : (bound past : ℕ) (items : Items) → past + lasting items < bound → keep (below (some bound)) (onsets_after past items) ≡ onsets_after past items
+pub below_kept : (bound past : ℕ) (items : Items) → past + lasting items < bound → keep (below (Some bound)) (onsets_after past items) ≡ onsets_after past items
 unfolding keep onsets_after is_below lasting sum when◌then◌else◌
 below_kept bound past [] h = refl
 below_kept bound past (item ∷ items) h =
@@ -78,7 +78,7 @@ below_kept bound past (item ∷ items) h =
     (ap (λ (rest : Onsets Event). record { step = past + duration_of item.what; event = item } ∷ rest)
     (below_kept bound (past + duration_of item.what) items later))
 
-pub all_kept : (l : Onsets Event) → keep (below none) l ≡ l
+pub all_kept : (l : Onsets Event) → keep (below None) l ≡ l
 unfolding keep is_below when◌then◌else◌
 all_kept [] = refl
 all_kept (at ∷ l) = ap (λ (rest : Onsets Event). at ∷ rest) (all_kept l)
@@ -98,11 +98,11 @@ first_kept : (to : Option ℕ) (past : ℕ) (items : Items)
     → take (length (messages_of is_message (keep (below to) (onsets_after past items)))) (messages_after past items)
     ≡ messages_of is_message (keep (below to) (onsets_after past items))
 unfolding keep onsets_after messages_of is_below when◌then◌else◌
-first_kept none past items = rw (all_kept (onsets_after past items)) (take-length (messages_after past items))
-first_kept (some bound) past [] = refl
-first_kept (some bound) past (item ∷ items) =
+first_kept None past items = rw (all_kept (onsets_after past items)) (take-length (messages_after past items))
+first_kept (Some bound) past [] = refl
+first_kept (Some bound) past (item ∷ items) =
     by_test (past + duration_of item.what <? bound)
-    (λ t. simp t (first_with (past + duration_of item.what) item.what _ _ (first_kept (some bound) (past + duration_of item.what) items)))
+    (λ t. simp t (first_with (past + duration_of item.what) item.what _ _ (first_kept (Some bound) (past + duration_of item.what) items)))
     (λ t.
     let over = ltb-false (past + duration_of item.what) bound t in
     simp (t, none_kept bound (past + duration_of item.what) items over))

@@ -14,12 +14,12 @@ use Rattle.model.specs.declared.Voice.{Voice}
 use Rattle.model.specs.declared.Voice.TheVariants.{Score, Pcm}
 use Rattle.model.specs.declared.Event.{Event}
 use Rattle.model.specs.declared.Event.TheVariants.{Nop, Note, Wave, Control, Exclusive}
-use Rattle.model.specs.declared.ReadDuration.{ReadDuration}
-use Rattle.model.specs.declared.ReadDuration.TheVariants as duration
-use Rattle.model.specs.declared.ReadEvent.{ReadEvent}
-use Rattle.model.specs.declared.ReadEvent.TheVariants as event
+use Rattle.std.specs.Prelude.{Ok, Err}
+use Rattle.model.specs.Words.{Checked}
+use Rattle.model.specs.declared.Refusal.{Refusal}
+use Rattle.model.specs.declared.Read.{Read}
 use Rattle.model.specs.declared.ReadItem.{ReadItem}
-use Rattle.model.specs.declared.ReadItem.TheVariants.{Timed, EndMark, Refused}
+use Rattle.model.specs.declared.ReadItem.TheVariants.{Timed, EndMark}
 use Rattle.model.proofs.Tests.{if_all}
 use Rattle.items.proofs.Passing.{sounds_here}
 use Rattle.sections.specs.Taking.{AllBytes, taken_as, taken_mark, EventAgrees, ItemAgrees}
@@ -53,56 +53,57 @@ module _ (voice : Voice) (byte gate z : ℕ) where
 
 -- A NOTE OR WAVE
 
-module _ (s : List ℕ) (bytes : AllBytes s) (at : ℕ) (d : ReadDuration) (is : d ≡ gate_at s at) (value next : ℕ) (e : d ≡ duration.Is value next) where
-  pub gate_fits : value < 32768
+module _ (s : List ℕ) (bytes : AllBytes s) (at : ℕ) (d : Checked (Read ℕ)) (is : d ≡ gate_at s at) (read : Read ℕ) (e : d ≡ Ok read) where
+  pub gate_fits : read.what < 32768
   unfolding gate_at
   gate_fits =
       let short = subst DurationShort (sym is ∙ e) (gate_short s bytes at (duration_at s at) (duration_short s bytes at)) in
       omega arith
 
-module _ (voice : Voice) (s : List ℕ) (at length : ℕ) (d : ReadDuration) (is : d ≡ gate_at s (at + 1)) (r : Taken) where
+module _ (voice : Voice) (s : List ℕ) (at length : ℕ) (d : Checked (Read ℕ)) (is : d ≡ gate_at s (at + 1)) (r : Taken) where
   agrees_where : EventAgrees length r (gated voice (s ! at) d) → EventAgrees length r (sound_at voice s at)
   unfolding sound_at EventAgrees
   agrees_where h =
       if_all (EventAgrees length r) (is_sound voice (s ! at)) _ _
-      (λ t. subst (λ (x : ReadDuration). EventAgrees length r (gated voice (s ! at) x)) is h)
+      (λ t. subst (λ (x : Checked (Read ℕ)). EventAgrees length r (gated voice (s ! at) x)) is h)
       (λ t. tt)
 
-  pub sound_taken : (value next word : ℕ) → d ≡ duration.Is value next → word ≡ word_of (sound voice (s ! at) value) → r ≡ taken_as next length word
+  pub sound_taken : (read : Read ℕ) (word : ℕ) → d ≡ Ok read → word ≡ word_of (sound voice (s ! at) read.what) → r ≡ taken_as read.next length word
       → EventAgrees length r (sound_at voice s at)
   unfolding gated EventAgrees
-  sound_taken value next word e w h = agrees_where (rw e (h ∙ ap (taken_as next length) w))
+  sound_taken read word e w h = agrees_where (rw e (h ∙ ap (taken_as read.next length) w))
 
-  pub sound_refused : (number place : ℕ) → d ≡ duration.Refused number place → EventAgrees length r (sound_at voice s at)
+  pub sound_refused : (why : Refusal) → d ≡ Err why → EventAgrees length r (sound_at voice s at)
   unfolding gated EventAgrees
-  sound_refused number place e = agrees_where (rw e tt)
+  sound_refused why e = agrees_where (rw e tt)
 
 -- AN ITEM THAT IS READ
 
-module _ (voice : Voice) (s : List ℕ) (at : ℕ) (i : ReadItem) (is : i ≡ item_at voice s at) where
-  pub read_in_word : (duration next : ℕ) (what : Event) → AllBytes s → length s ≤ 65536 → i ≡ Timed duration what next → InWord what
-  read_in_word duration next what bytes small e = (subst ItemInWord (sym is ∙ e) (item_in_word s bytes small voice at)).1
+module _ (voice : Voice) (s : List ℕ) (at : ℕ) (i : Checked ReadItem) (is : i ≡ item_at voice s at) where
+  pub read_in_word : (read : ReadItem) (duration next : ℕ) (what : Event) → AllBytes s → length s ≤ 65536 → i ≡ Ok read
+      → read ≡ Timed duration what next → InWord what
+  read_in_word read duration next what bytes small e f = (subst ItemInWord (sym is ∙ e ∙ ap Ok f) (item_in_word s bytes small voice at)).1
 
   module _ (r : Taken) where
-    pub read_timed : (duration next word : ℕ) (what : Event) → i ≡ Timed duration what next → word ≡ word_of what → r ≡ taken_as next duration word
-        → ItemAgrees r (item_at voice s at)
+    pub read_timed : (read : ReadItem) (duration next word : ℕ) (what : Event) → i ≡ Ok read → read ≡ Timed duration what next → word ≡ word_of what
+        → r ≡ taken_as next duration word → ItemAgrees r (item_at voice s at)
     unfolding ItemAgrees
-    read_timed duration next word what e w h = subst (ItemAgrees r) (sym e ∙ is) (h ∙ ap (taken_as next duration) w)
+    read_timed read duration next word what e f w h = subst (ItemAgrees r) (sym (e ∙ ap Ok f) ∙ is) (h ∙ ap (taken_as next duration) w)
 
-    pub read_mark : (next : ℕ) → i ≡ EndMark next → r ≡ taken_mark next 0 → ItemAgrees r (item_at voice s at)
+    pub read_mark : (read : ReadItem) (next : ℕ) → i ≡ Ok read → read ≡ EndMark next → r ≡ taken_mark next 0 → ItemAgrees r (item_at voice s at)
     unfolding ItemAgrees
-    read_mark next e h = subst (ItemAgrees r) (sym e ∙ is) h
+    read_mark read next e f h = subst (ItemAgrees r) (sym (e ∙ ap Ok f) ∙ is) h
 
-    pub read_refused : (number place : ℕ) → i ≡ Refused number place → ItemAgrees r (item_at voice s at)
+    pub read_refused : (why : Refusal) → i ≡ Err why → ItemAgrees r (item_at voice s at)
     unfolding ItemAgrees
-    read_refused number place e = subst (ItemAgrees r) (sym e ∙ is) tt
+    read_refused why e = subst (ItemAgrees r) (sym e ∙ is) tt
 
 -- AFTER A DURATION OF ONE BYTE
 
-with_agrees : (length : ℕ) (r : Taken) (e : ReadEvent) → EventAgrees length r e → ItemAgrees r (with_event length e)
+with_agrees : (length : ℕ) (r : Taken) (e : Checked (Read Event)) → EventAgrees length r e → ItemAgrees r (with_event length e)
 unfolding with_event EventAgrees ItemAgrees
-with_agrees length r (event.Is what next) h = h
-with_agrees length r (event.Refused number place) h = tt
+with_agrees length r (Ok read) h = h
+with_agrees length r (Err why) h = tt
 
 module _ (voice : Voice) (s : List ℕ) (at : ℕ) (there : at + 1 < length s) (one : s ! at < 128) (control : s ! (at + 1) ≡ 0x00 → ⊥)
     (system : s ! (at + 1) ≡ 0xFF → ⊥) where

@@ -6,7 +6,8 @@ use mathlib.Core.List.{List, [], ◌∷◌, ◌++◌, map}
 use mathlib.Core.Path.{◌≡◌, subst}
 use lib.ListN.{length}
 use native.Mathlib.Omega.{arith}
-use Rattle.model.specs.Words.{when◌then◌else◌, keep, through, Checked.fine, Placed, Step.met}
+use Rattle.model.specs.Words.{when◌then◌else◌, keep, through, Placed, Step.met, Checked}
+use Rattle.std.specs.Prelude.{Ok, Err}
 use Rattle.model.specs.Bytes.{◌!◌}
 use Rattle.model.specs.Item.{Item, Item.timed, Item.end_mark, item_met, item_step, item_at, duration_of, body_of}
 use Rattle.model.specs.Play.{At, onsets_after, with_message, messages_of, Section, is_within, reaches, items_within, sounding, lasts_in, sections_played, played_from, all_played, tune_of}
@@ -14,7 +15,7 @@ use Rattle.model.specs.Word.{is_message, InWord}
 use Rattle.model.specs.declared.Voice.{Voice}
 use Rattle.model.specs.declared.Event.{Event}
 use Rattle.model.specs.declared.ReadItem.{ReadItem}
-use Rattle.model.specs.declared.ReadItem.TheVariants.{Timed, EndMark, Refused}
+use Rattle.model.specs.declared.ReadItem.TheVariants.{Timed, EndMark}
 use Rattle.model.proofs.Tests.{by_test, if_all}
 use Rattle.items.proofs.Standing.{body_stands}
 use Rattle.sections.specs.Spans.{Items, messages_within, counted}
@@ -77,15 +78,15 @@ module _ (P : Event → Type 0) where
 
 -- WORDS have the bits for the events of a body of bytes
 module _ (voice : Voice) (s : List ℕ) (bytes : (k : ℕ) → s ! k < 256) (small : length s ≤ 65536) where
-  met_in_word : (at : ℕ) (j : ReadItem) (item : Placed (Item Event)) (next : ℕ) → ItemInWord j → item_met at j ≡ met item next → OfItem InWord item.what
+  met_in_word : (at : ℕ) (j : Checked ReadItem) (item : Placed (Item Event)) (next : ℕ) → ItemInWord j → item_met at j ≡ met item next → OfItem InWord item.what
   unfolding item_met
-  met_in_word at (Timed duration event n) item next h e =
+  met_in_word at (Ok (Timed duration event n)) item next h e =
       let same : ◌≡◌ {A = Placed (Item Event)} (record { place = at; what = timed duration event }) item = cc in
       subst (λ (i : Placed (Item Event)). OfItem InWord i.what) same h.1
-  met_in_word at (EndMark n) item next h e =
+  met_in_word at (Ok (EndMark n)) item next h e =
       let same : ◌≡◌ {A = Placed (Item Event)} (record { place = at; what = end_mark }) item = cc in
       subst (λ (i : Placed (Item Event)). OfItem InWord i.what) same tt
-  met_in_word at (Refused number place) item next h e = let z : ◌≡◌ {A = ℕ} 0 1 = cc in absurd (omega arith)
+  met_in_word at (Err why) item next h e = let z : ◌≡◌ {A = ℕ} 0 1 = cc in absurd (omega arith)
 
   standing_in_word : (at : ℕ) (items : Items) → Standing voice s at items → OfItems InWord items
   unfolding item_step
@@ -93,5 +94,5 @@ module _ (voice : Voice) (s : List ℕ) (bytes : (k : ℕ) → s ! k < 256) (sma
   standing_in_word at (item ∷ items) st =
       (met_in_word at (item_at voice s at) item st.0 (item_in_word s bytes small voice at) st.1, standing_in_word st.0 items st.2)
 
-  pub body_in_word : (items : Items) → body_of voice s ≡ fine items → OfItems InWord items
+  pub body_in_word : (items : Items) → body_of voice s ≡ Ok items → OfItems InWord items
   body_in_word items e = standing_in_word 0 items (body_stands voice s items e)

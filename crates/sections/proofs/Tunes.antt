@@ -2,7 +2,7 @@
 use Prim.Native.Nat.{ℕ, ◌+◌}
 use mathlib.Core.Bool.{Bool, true, false}
 use mathlib.Core.List.{List, [], ◌∷◌, ◌++◌, map}
-use mathlib.Core.Option.{Option, none, some}
+use Rattle.std.specs.Prelude.{Option, None, Some}
 use mathlib.Core.Path.{◌≡◌, subst}
 use native.Mathlib.Nat.{zero-add}
 use native.Mathlib.Omega.{arith}
@@ -56,32 +56,32 @@ module _ (items : Items) where
 
   pub stream_section_rises : (start : ℕ) (stop : Option ℕ) → Rises (stream_section items start stop)
   unfolding stream_section
-  stream_section_rises start none before = stream_rises before start items
-  stream_section_rises start (some stop) before = between_rises before start stop items
+  stream_section_rises start None before = stream_rises before start items
+  stream_section_rises start (Some stop) before = between_rises before start stop items
 
   pub phrase_section_rises : (addresses : Option Addresses) → Rises (phrase_section items addresses)
   unfolding phrase_section
-  phrase_section_rises none before = between_rises before 0 0 items
-  phrase_section_rises (some addresses) before = between_rises before addresses.from addresses.to items
+  phrase_section_rises None before = between_rises before 0 0 items
+  phrase_section_rises (Some addresses) before = between_rises before addresses.from addresses.to items
 
   phrases_each : (entries : List (Placed Entry)) (letters : List ℕ) → EachRises (map (λ letter. phrase_section items (phrase_of letter entries)) letters)
   phrases_each entries [] = tt
   phrases_each entries (letter ∷ letters) = (phrase_section_rises (phrase_of letter entries), phrases_each entries letters)
 
-  order_each : (phrases : Bool) (entries : List (Placed Entry)) (sections : List Section) → order_of phrases items entries ≡ some sections → EachRises sections
+  order_each : (phrases : Bool) (entries : List (Placed Entry)) (sections : List Section) → order_of phrases items entries ≡ Some sections → EachRises sections
   unfolding order_of phrase_order
   order_each true entries sections e = go (order_list entries) e
     where
-      go : (order : Option (List ℕ)) → phrase_order items entries order ≡ some sections → EachRises sections
-      go none q = let z : ◌≡◌ {A = ℕ} 0 1 = cc in absurd (omega arith)
-      go (some letters) q =
+      go : (order : Option (List ℕ)) → phrase_order items entries order ≡ Some sections → EachRises sections
+      go None q = let z : ◌≡◌ {A = ℕ} 0 1 = cc in absurd (omega arith)
+      go (Some letters) q =
           let same : map (λ letter. phrase_section items (phrase_of letter entries)) (letters_played entries letters) ≡ sections = cc in
           subst EachRises same (phrases_each entries (letters_played entries letters))
   order_each false entries sections e =
       let same : stream_section items (start_point entries otherwise 0) (stop_point entries) ∷ [] ≡ sections = cc in
       subst EachRises same (stream_section_rises (start_point entries otherwise 0) (stop_point entries), tt)
 
-pub tune_rises : (track : Track) (sections : List Section) → play_order track ≡ some sections
+pub tune_rises : (track : Track) (sections : List Section) → play_order track ≡ Some sections
     → Rising 0 (tune_in track sections).end (tune_in track sections).messages
 unfolding play_order tune_in tune_of sections_played all_played
 tune_rises track sections e =

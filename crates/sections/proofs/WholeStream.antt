@@ -2,7 +2,7 @@
 -- there is no mark it plays every message, and lasts as long as its items.
 use Prim.Native.Nat.{ℕ, ◌+◌, ◌-◌}
 use mathlib.Core.List.{List, [], ◌∷◌, map, append-nil}
-use mathlib.Core.Option.{none}
+use Rattle.std.specs.Prelude.{None}
 use mathlib.Core.Path.{◌≡◌, refl, ◌∙◌, ap, ap₂}
 use native.Mathlib.Omega.{arith}
 use borrow.Author.Tests.{le-ltb, le-leb}
@@ -20,7 +20,7 @@ use Rattle.sections.proofs.Steps.{all_within}
 
 -- what a body plays as a stream without points
 abbrev pub streamed : Items → Tune Event
-streamed items = tune_of is_message items (stream_section items 0 none ∷ [])
+streamed items = tune_of is_message items (stream_section items 0 None ∷ [])
 
 -- the items up to and with the first end mark; all of them where there is none
 abbrev pub to_mark : {E : Type 0} → List (Placed (Item E)) → List (Placed (Item E))
@@ -59,15 +59,15 @@ played_alone items section =
 pub stream_messages : (items : Items) → (streamed items).messages ≡ messages_after 0 (to_mark items)
 unfolding all_played played_from sounding stream_section
 stream_messages items =
-    ap (λ (tune : Tune Event). tune.messages) (played_alone items (stream_section items 0 none))
-    ∙ append-nil (map (counted 0 (time_of items 0)) (messages_within (stream_section items 0 none) items))
-    ∙ ap (map (counted 0 (time_of items 0))) (all_within (stream_section items 0 none) items (starts_at_none items) refl)
+    ap (λ (tune : Tune Event). tune.messages) (played_alone items (stream_section items 0 None))
+    ∙ append-nil (map (counted 0 (time_of items 0)) (messages_within (stream_section items 0 None) items))
+    ∙ ap (map (counted 0 (time_of items 0))) (all_within (stream_section items 0 None) items (starts_at_none items) refl)
     ∙ as_they_are (time_of items 0) (messages_after 0 (items_through 0 items)) (starts_at_none items)
     ∙ ap (messages_after 0) (to_mark_lem items)
 
 pub stream_end : (items : Items) → (streamed items).end ≡ lasting (to_mark items)
 unfolding all_played stream_section sum
 stream_end items =
-    ap (λ (tune : Tune Event). tune.end) (played_alone items (stream_section items 0 none))
-    ∙ omega (arith, starts_at_none items, lasts_through (stream_section items 0 none) refl items refl)
+    ap (λ (tune : Tune Event). tune.end) (played_alone items (stream_section items 0 None))
+    ∙ omega (arith, starts_at_none items, lasts_through (stream_section items 0 None) refl items refl)
     ∙ ap lasting (to_mark_lem items)

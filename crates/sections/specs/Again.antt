@@ -1,5 +1,5 @@
 -- Rows that stand in two tables already, and are to be played again.
-use Rattle.std.specs.Prelude.{ℕ, ◌+◌, ◌<◌, ◌≤◌, true, false, List, map, ◌≡◌, length}
+use Rattle.std.specs.Prelude.{ℕ, ◌+◌, ◌<◌, ◌≤◌, List, map, ◌≡◌, length, Option, Some}
 use Rattle.model.specs.Bytes.{◌!◌, part}
 use Rattle.model.specs.declared.Span.{Span}
 use Rattle.sections.specs.declared.Standing.{Standing}
@@ -12,11 +12,8 @@ later more steps = map (λ step. step + more) steps
 abbrev pub AllFit : ℕ → List ℕ → Type 0
 AllFit more steps = (i : ℕ) → i < length steps → steps ! i + more ≤ 4611686018427387904
 
-abbrev pub nowhere : Standing
-nowhere = record { known = false; row = 0; before = 0 }
-
 abbrev pub standing_at : ℕ → ℕ → Standing
-standing_at row before = record { known = true; row = row; before = before }
+standing_at row before = record { row = row; before = before }
 
 -- The rows of a span stand from an index on, before another, as they were when so much had been played; none is past the span's end.
 pub record Stored (items : Items) (span : Span) (standing : Standing) (steps words : List ℕ) (at before : ℕ) : Type 0 where
@@ -26,5 +23,5 @@ pub record Stored (items : Items) (span : Span) (standing : Standing) (steps wor
   pub words_stand : part words standing.row span.messages ≡ words_of (span_rows items span standing.before)
   pub low : (i : ℕ) → i < length (steps_of (span_rows items span standing.before)) → steps_of (span_rows items span standing.before) ! i ≤ standing.before + span.lasts
 
-abbrev pub StoredWhereKnown : Items → Span → Standing → List ℕ → List ℕ → ℕ → ℕ → Type 0
-StoredWhereKnown items span standing steps words at before = standing.known ≡ true → Stored items span standing steps words at before
+abbrev pub StoredWhereKnown : Items → Span → Option Standing → List ℕ → List ℕ → ℕ → ℕ → Type 0
+StoredWhereKnown items span known steps words at before = (standing : Standing) → known ≡ Some standing → Stored items span standing steps words at before

@@ -1,7 +1,6 @@
 -- A section as a stretch of a body: onsets never fall, so what is not before a section is all that stands from some item on, and what it
 -- plays is the first so many messages of that.
-use Rattle.std.specs.Prelude.{ℕ, ◌+◌, ◌-◌, ◌*◌, ◌<◌, ◌≤◌, Bool, List, [], ◌∷◌, map, ◌≡◌, length, take}
-use Rattle.std.proofs.Math.Option.{none}
+use Rattle.std.specs.Prelude.{ℕ, ◌+◌, ◌-◌, ◌*◌, ◌<◌, ◌≤◌, Bool, List, [], ◌∷◌, map, ◌≡◌, length, take, None}
 use Rattle.model.specs.Words.{when◌then◌else◌, ◌and◌, ◌<?◌, ◌≤?◌, keep, through, Placed}
 use Rattle.model.specs.Duration.{longest_duration}
 use Rattle.model.specs.Item.{Item, duration_of, is_mark, lasting}
@@ -60,7 +59,7 @@ abbrev pub passage_between : Items → ℕ → ℕ → ℕ → Passage
 passage_between items size start stop = passage_of items size (between items start stop)
 
 abbrev pub span_from : Items → ℕ → ℕ → Span
-span_from items size start = span_of items size (stream_section items start none)
+span_from items size start = span_of items size (stream_section items start None)
 
 -- an end mark that stands from a place on
 unfoldable pub mark_from : ℕ → Placed (Item Event) → Bool

@@ -4,7 +4,7 @@ ghost use Rattle.std.proofs.lemmas.List.Edits.{sets};
 ghost use Rattle.model.specs.Bytes.{part};
 ghost use Rattle.model.specs.Item.{body_of, is_fine, items_of};
 ghost use Rattle.sections.specs.Spans.{span_rows, steps_of, words_of, Playable};
-ghost use Rattle.sections.specs.Again.{later, AllFit, StoredWhereKnown, standing_at, nowhere};
+ghost use Rattle.sections.specs.Again.{later, AllFit, StoredWhereKnown};
 
 use super::Standing;
 use super::rows::write_span;
@@ -17,24 +17,8 @@ fn copy_steps(steps: &mut [u64], from: usize, count: usize, more: u64, at: usize
     requires all_fit { AllFit more (part steps.old from count) }
     ensures { steps.new ≡ sets steps.old at (later more (part steps.old from count)) }
 {
-    let mut i: usize = 0;
-    while i < count {
-        let step = steps[from + i];
-        steps[at + i] = step + more;
-        i += 1;
-    }
-}
-
-fn copy_words(words: &mut [u32], from: usize, count: usize, at: usize)
-    requires count_bound { from + count ≤ at }
-    requires count_in_bounds { at + count ≤ length words.old }
-    ensures { words.new ≡ sets words.old at (part words.old from count) }
-{
-    let mut i: usize = 0;
-    while i < count {
-        let word = words[from + i];
-        words[at + i] = word;
-        i += 1;
+    for i in 0..count {
+        steps[at + i] = steps[from + i] + more;
     }
 }
 
@@ -43,7 +27,7 @@ pub fn write_section(
     voice: Voice,
     body: &[u8],
     span: Span,
-    standing: Standing,
+    standing: Option<Standing>,
     before: u64,
     steps: &mut [u64],
     words: &mut [u32],
@@ -59,33 +43,11 @@ pub fn write_section(
     ensures steps_after { steps.new ≡ sets steps.old at (steps_of (span_rows (items_of voice body.now) span before)) }
     ensures words_after { words.new ≡ sets words.old at (words_of (span_rows (items_of voice body.now) span before)) }
 {
-    if standing.known {
-        let row = standing.row;
-        let count = span.messages;
-        copy_steps(steps, row, count, before - standing.before, at);
-        copy_words(words, row, count, at);
+    let Some(Standing { row, before: first }) = standing else {
+        write_span(voice, body, span, before, steps, words, at);
         return;
-    }
-    write_span(voice, body, span, before, steps, words, at);
-}
-
-// Where the rows of a span stand once they are written at an index.
-pub fn standing_at(row: usize, before: u64) -> Standing
-    ensures { result ≡ standing_at row before }
-{
-    Standing {
-        known: true,
-        row,
-        before,
-    }
-}
-
-pub fn nowhere() -> Standing
-    ensures { result ≡ nowhere }
-{
-    Standing {
-        known: false,
-        row: 0,
-        before: 0,
-    }
+    };
+    let count = span.messages;
+    copy_steps(steps, row, count, before - first, at);
+    words.copy_within(row..row + count, at);
 }

@@ -10,17 +10,16 @@ mod take;
 mod walk;
 mod word;
 
-pub use again::{nowhere, standing_at, write_section};
+pub use again::write_section;
 pub use rest::write_from;
 pub use rows::write_span;
 pub use span::{span_between, span_from};
 pub use take::take_item;
 pub use word::{is_message, word_of};
 
-// Where the rows of a section stand, if that is known, and what had been played before them.
+// Where the rows of a section stand, and what had been played before them.
 #[derive(Clone, Copy)]
 pub struct Standing {
-    pub known: bool,
     pub row: usize,
     pub before: u64,
 }

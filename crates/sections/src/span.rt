@@ -36,6 +36,7 @@ pub fn span_on(reached: Reached, messages: usize, lasts: u64) -> Span
 }
 
 // From what is reached on, up to so many messages and a time.
+#[tactic(auto, unfolding(crate::specs::Reaching::span_to))]
 fn span_to(reached: Reached, messages: usize, time: u64) -> Span
     requires passed_le_messages { reached.passed ≤ messages }
     requires time_le_time { reached.time ≤ time }
@@ -45,6 +46,7 @@ fn span_to(reached: Reached, messages: usize, time: u64) -> Span
 }
 
 // From what is reached on: up to where a walk went, if that is before the time of the stop, and else up to the stop.
+#[tactic(auto, using(crate::proofs::Spanning::passages))]
 fn passage_to(from: Reached, went: Reached, to: Reached) -> Passage
     requires passed_le_messages { from.passed ≤ went.messages }
     requires time_le_time { from.time ≤ went.time }

@@ -9,7 +9,7 @@ ghost use Rattle.sections.specs.Taking.{AllBytes, taken_as, taken_mark, EventAgr
 use super::Taken;
 use super::word::{pack, word_of};
 use items::{read_gate, read_item};
-use model::{ReadDuration, ReadItem, Voice};
+use model::{ReadItem, Voice};
 
 fn taken(next: usize, duration: u32, word: u32) -> Taken
     ensures { result ≡ taken_as next duration word }
@@ -52,15 +52,12 @@ fn take_sound(voice: Voice, s: &[u8], at: usize, duration: u8) -> Taken
 {
     let byte = s[at];
     match read_gate(s, at + 1) {
-        ReadDuration::Is { value, next } => taken(
-            next,
+        Ok(gate) => taken(
+            gate.next,
             duration as u32,
-            sound_word(voice, byte, value),
+            sound_word(voice, byte, gate.what),
         ),
-        ReadDuration::Refused {
-            number: _,
-            place: _,
-        } => taken(0, 0, 0),
+        Err(_) => taken(0, 0, 0),
     }
 }
 
@@ -70,16 +67,15 @@ fn take_read(voice: Voice, s: &[u8], at: usize) -> Taken
     ensures { ItemAgrees result (item_at voice s.now at) }
 {
     match read_item(voice, s, at) {
-        ReadItem::Timed {
-            duration,
-            event,
-            next,
-        } => taken(next, duration, word_of(event)),
-        ReadItem::EndMark { next } => taken_mark(next, 0),
-        ReadItem::Refused {
-            number: _,
-            place: _,
-        } => taken(0, 0, 0),
+        Ok(
+            ReadItem::Timed {
+                duration,
+                event,
+                next,
+            },
+        ) => taken(next, duration, word_of(event)),
+        Ok(ReadItem::EndMark { next }) => taken_mark(next, 0),
+        Err(_) => taken(0, 0, 0),
     }
 }
 

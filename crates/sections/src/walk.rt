@@ -10,6 +10,7 @@ use super::take::take_item;
 use model::{Reached, Voice};
 
 // Whether an item that stands at a place is an end mark where a walk ends.
+#[tactic(auto, using(model::proofs::Tests::junctions))]
 pub fn ends_here(mark: bool, marks: usize, place: usize) -> bool
     ensures { result ≡ (mark and (marks ≤? place)) }
 {
@@ -20,6 +21,7 @@ pub fn ends_here(mark: bool, marks: usize, place: usize) -> bool
 }
 
 // How many messages an item is, by its word.
+#[tactic(auto, using(model::proofs::Tests::tests), unfolding(crate::specs::Reaching::heard_by))]
 fn heard_by(word: u32) -> usize
     ensures value { result ≡ heard_by word }
     ensures upper_bound { result ≤ 1 }
@@ -31,6 +33,7 @@ fn heard_by(word: u32) -> usize
 }
 
 // One item further.
+#[tactic(auto, using(crate::proofs::Nearing::passing))]
 fn pass_by(reached: Reached, item: Taken) -> Reached
     requires time_bound { reached.time ≤ 281474976710656 }
     requires messages_bound { reached.messages ≤ 65536 }

@@ -4,28 +4,11 @@ ghost use Rattle.model.specs.Word.{is_message, packed, packed_exclusive, word_of
 
 use model::Event;
 
+#[tactic(auto, using(crate::proofs::Words::nop_message, crate::proofs::Words::no_nop))]
 pub fn is_message(event: Event) -> bool
     ensures { result ≡ is_message event }
 {
-    match event {
-        Event::Nop => false,
-        Event::Note {
-            channel: _,
-            key: _,
-            gate: _,
-        } => true,
-        Event::Wave {
-            channel: _,
-            number: _,
-            gate: _,
-        } => true,
-        Event::Control {
-            kind: _,
-            channel: _,
-            value: _,
-        } => true,
-        Event::Exclusive { place: _, size: _ } => true,
-    }
+    !matches!(event, Event::Nop)
 }
 
 // The word of a note, a wave or a control.

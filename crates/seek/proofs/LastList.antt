@@ -1,39 +1,40 @@
 -- The order list of a body of good form, which is the body's last entry: its letters end where the body ends, or at the comma there.
 use Prim.Native.Nat.{ℕ, ◌+◌, ◌-◌, ◌≤◌}
 use mathlib.Core.List.{List}
-use mathlib.Core.Bool.{Bool, true, false, false≢true}
+use mathlib.Core.Bool.{true, false, false≢true}
 use mathlib.Core.Path.{◌≡◌, refl, sym, ◌∙◌, ap}
 use native.Mathlib.Decide.{dec_lt}
 use native.Mathlib.Nat.{add-zero}
 use native.Mathlib.Omega.{arith}
 use lib.ListN.{length, drop}
 use borrow.Author.Tests.{le-ltb, leb-true, ltb-false, eq-eqb, ne_eqb, eqb-true}
-use Rattle.model.specs.Words.{when◌then◌else◌, ◌and◌, ◌<?◌, ◌≤?◌, ◌≡?◌}
+use Rattle.model.specs.Words.{◌and◌, ◌<?◌, ◌≤?◌, ◌≡?◌, ◌up_to◌}
 use Rattle.model.specs.Bytes.{◌!◌, number}
 use Rattle.model.specs.Seek.{is_letter, letters_in_front, data_at, entry_at}
-use Rattle.model.specs.declared.ReadEntry.{ReadEntry}
-use Rattle.model.specs.declared.ReadEntry.TheVariants.{Order, Refused}
+use Rattle.std.specs.Prelude.{Option, Some, None}
+use Rattle.std.specs.Option.{IsSome}
+use Rattle.model.specs.declared.Read.{Read}
+use Rattle.model.specs.declared.SeekEntry.{SeekEntry}
+use Rattle.model.specs.declared.SeekEntry.TheVariants.{Order}
 use Rattle.model.proofs.Tests.{by_test, if_true, if_false, flag_on, and_left, and_right, not_on, not_off}
-use Rattle.seek.specs.Next.{end_of, moved_to, past_comma, next_at, is_known}
+use Rattle.seek.specs.Next.{past_comma, next_at, may_end, is_known, KnownAt}
 use Rattle.seek.proofs.Letters.{letter_least, letter_most, letter_among, letters_reach}
 
--- a refused entry is none
-
-refused_unknown : (s : List ℕ) → is_known (length s) (past_comma s Refused) ≡ false
-unfolding past_comma end_of moved_to is_known when◌then◌else◌
-refused_unknown s = go (length s ≤? 0) (s ! 0 ≡? 0x2C)
+-- where an entry is known, one is read
+pub known_read : (width : ℕ) (s : List ℕ) (at : ℕ) (found : Option (Read SeekEntry)) → found ≡ next_at width s at → KnownAt width s at → IsSome found
+unfolding is_known
+known_read width s at found is k = go found (ap (is_known (length s)) is ∙ k.known)
   where
-    go : (a b : Bool) → is_known (length s) (when a then Refused else when b then Refused else Refused) ≡ false
-    go true b = refl
-    go false true = refl
-    go false false = refl
+    go : (found : Option (Read SeekEntry)) → is_known (length s) found ≡ true → IsSome found
+    go (Some read) known = refl
+    go None known = known
 
 -- an entry that is known has its tag and colon, and an order list its letters behind them
 
 module _ (width : ℕ) (s : List ℕ) (at : ℕ) (known : is_known (length s) (next_at width s at) ≡ true) where
-  known_whole : entry_at width s at ≡ Refused → ⊥
-  unfolding next_at
-  known_whole e = false≢true (sym (refused_unknown s) ∙ ap (λ (entry : ReadEntry). is_known (length s) (past_comma s entry)) (sym e) ∙ known)
+  known_whole : entry_at width s at ≡ None → ⊥
+  unfolding next_at past_comma is_known
+  known_whole e = false≢true (ap (λ (read : Option (Read SeekEntry)). is_known (length s) (past_comma s read)) (sym e) ∙ known)
 
   pub known_room : at + 3 ≤ length s
   unfolding entry_at
@@ -59,7 +60,7 @@ module _ (width : ℕ) (s : List ℕ) (at : ℕ) (known : is_known (length s) (n
         absurd (omega (arith, eqb-true (number 2 s at) 0x534C tagged)))
         (λ h. h)
 
-    list_is : entry_at width s at ≡ Order letters (at + 3 + letters)
+    list_is : entry_at width s at ≡ Some (Order letters up_to (at + 3 + letters))
     unfolding entry_at data_at
     list_is =
         let tag = eqb-true (number 2 s at) 0x534C tagged in
@@ -71,22 +72,22 @@ module _ (width : ℕ) (s : List ℕ) (at : ℕ) (known : is_known (length s) (n
         ∙ if_true _ _ _ tagged
 
     -- the list ends where the body ends, or at a comma that is the last byte
-    list_ends : {X : Type 0} → (at + 3 + letters ≡ length s → next_at width s at ≡ Order letters (length s) → X)
-        → (at + 3 + letters + 1 ≡ length s → s ! (at + 3 + letters) ≡ 0x2C → next_at width s at ≡ Order letters (length s) → X) → X
-    unfolding next_at past_comma end_of moved_to is_known
+    list_ends : {X : Type 0} → (at + 3 + letters ≡ length s → next_at width s at ≡ Some (Order letters up_to (length s)) → X)
+        → (at + 3 + letters + 1 ≡ length s → s ! (at + 3 + letters) ≡ 0x2C → next_at width s at ≡ Some (Order letters up_to (length s)) → X) → X
+    unfolding next_at past_comma is_known may_end
     list_ends at-end at-comma =
         let reach = letters_reach s (at + 3) known_room in
         let is = ap (past_comma s) list_is in
         by_test (length s ≤? at + 3 + letters)
         (λ h.
         let all : at + 3 + letters ≡ length s = omega (arith, leb-true (length s) (at + 3 + letters) h) in
-        at-end all (is ∙ if_true _ _ _ h ∙ ap (Order letters) all))
+        at-end all (is ∙ if_true _ _ _ h ∙ ap (λ (n : ℕ). Some (Order letters up_to n)) all))
         (λ h.
         by_test (s ! (at + 3 + letters) ≡? 0x2C)
         (λ g.
         let moved = is ∙ if_false _ _ _ h ∙ if_true _ _ _ g in
         let all = eqb-true (at + 3 + letters + 1) (length s) (sym (ap (is_known (length s)) moved) ∙ known) in
-        at-comma all (eqb-true (s ! (at + 3 + letters)) 0x2C g) (moved ∙ ap (Order letters) all))
+        at-comma all (eqb-true (s ! (at + 3 + letters)) 0x2C g) (moved ∙ ap (λ (n : ℕ). Some (Order letters up_to n)) all))
         (λ g. absurd (false≢true (sym (ap (is_known (length s)) (is ∙ if_false _ _ _ h ∙ if_false _ _ _ g)) ∙ known))))
 
     -- where it ends with the body, the body's last byte is its colon or a letter
@@ -107,14 +108,14 @@ module _ (width : ℕ) (s : List ℕ) (at : ℕ) (known : is_known (length s) (n
     pub list_before_comma : s ! (length s - 1) ≡ 0x2C → at + 3 ≤ length s - 1
     list_before_comma comma = list_ends (λ all is. absurd (list_no_comma all comma)) (λ all g is. omega arith)
 
-    pub list_to_comma : s ! (length s - 1) ≡ 0x2C → Order (length s - 1 - (at + 3)) (length s) ≡ next_at width s at
+    pub list_to_comma : s ! (length s - 1) ≡ 0x2C → Some (Order (length s - 1 - (at + 3)) up_to (length s)) ≡ next_at width s at
     list_to_comma comma =
         list_ends (λ all is. absurd (list_no_comma all comma))
-        (λ all g is. let many : length s - 1 - (at + 3) ≡ letters = omega arith in ap (λ (n : ℕ). Order n (length s)) many ∙ sym is)
+        (λ all g is. let many : length s - 1 - (at + 3) ≡ letters = omega arith in ap (λ (n : ℕ). Some (Order n up_to (length s))) many ∙ sym is)
 
-    pub list_to_end : (s ! (length s - 1) ≡ 0x2C → ⊥) → Order (length s - (at + 3)) (length s) ≡ next_at width s at
+    pub list_to_end : (s ! (length s - 1) ≡ 0x2C → ⊥) → Some (Order (length s - (at + 3)) up_to (length s)) ≡ next_at width s at
     list_to_end other =
-        list_ends (λ all is. let many : length s - (at + 3) ≡ letters = omega arith in ap (λ (n : ℕ). Order n (length s)) many ∙ sym is)
+        list_ends (λ all is. let many : length s - (at + 3) ≡ letters = omega arith in ap (λ (n : ℕ). Some (Order n up_to (length s))) many ∙ sym is)
         (λ all g is. let there : at + 3 + letters ≡ length s - 1 = omega arith in absurd (other (ap (λ (n : ℕ). s ! n) (sym there) ∙ g)))
 
-pub ruleset lists = (list_before_comma, list_to_comma, list_to_end, flag_on)
+pub ruleset lists = (known_read, list_before_comma, list_to_comma, list_to_end, flag_on)

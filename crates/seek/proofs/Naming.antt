@@ -2,8 +2,8 @@
 -- out of them and each turn makes of them.
 use Prim.Native.Nat.{ℕ, suc, ◌+◌, ◌-◌, ◌<◌, ◌≤◌}
 use mathlib.Core.List.{List, [], ◌∷◌}
-use mathlib.Core.Bool.{Bool, true, false, false≢true}
-use mathlib.Core.Option.{Option, none, some}
+use mathlib.Core.Bool.{Bool, true, false}
+use Rattle.std.specs.Prelude.{Option, None, Some, Ok, Err}
 use mathlib.Core.Path.{◌≡◌, refl, sym, ◌∙◌, ap, ap₂, subst}
 use native.Mathlib.Numerals.{add-one}
 use native.Mathlib.Omega.{arith}
@@ -12,21 +12,21 @@ use mir.Val.{Fits}
 use lib.ListN.{length, get_or, set, length-set, replicate, length-replicate}
 use lib.Seq.{drop-cons, get_or-set_same, get_or-set_other}
 use borrow.Author.Tests.{eqb-true, eqb-false}
-use Rattle.model.specs.Words.{when◌then◌else◌, ◌or◌, ◌≡?◌, is_some, ◌otherwise◌, ◌or_else◌, first_said, ◌>>◌, Placed, Checked, Checked.fine, Checked.refused, passed, all_pass}
+use Rattle.model.specs.Words.{when◌then◌else◌, ◌or◌, ◌≡?◌, is_some, ◌otherwise◌, ◌or_else◌, first_said, ◌>>◌, ◌up_to◌, Placed, Checked, passed, all_pass, refused}
 use Rattle.model.specs.Bytes.{◌!◌, part}
 use Rattle.model.specs.Item.{is_fine, check_answer}
-use Rattle.model.specs.Seek.{Entry, Entry.start, Entry.stop, Entry.phrase, Entry.order, tag, seek_of, Addresses, phrase_in, order_in, letters_from, phrase_of, order_list, order_place, points_said}
+use Rattle.model.specs.Seek.{Entry, Entry.start, Entry.stop, Entry.phrase, Entry.order, tag, entry_of, seek_of, Addresses, phrase_in, order_in, letters_from, phrase_of, order_list, order_place, points_said}
 use Rattle.model.specs.Points.{letters_named, letters_hold, order_holds}
 use Rattle.model.specs.Track.{point_width}
 use Rattle.model.specs.declared.Points.{Points}
-use Rattle.model.specs.declared.Check.TheVariants as check
-use Rattle.model.specs.declared.ReadEntry.{ReadEntry}
-use Rattle.model.specs.declared.ReadEntry.TheVariants.{Start, Stop, Phrase, Order, Refused}
+use Rattle.model.specs.declared.Read.{Read}
+use Rattle.model.specs.declared.SeekEntry.{SeekEntry}
+use Rattle.model.specs.declared.SeekEntry.TheVariants.{Start, Stop, Phrase, Order}
 use Rattle.model.proofs.Parts.{part_length}
 use Rattle.model.proofs.Tests.{by_test, if_true, if_false, flag_on, flag_off}
-use Rattle.seek.specs.Next.{is_refused, end_of, next_at}
+use Rattle.seek.specs.Next.{next_at}
 use Rattle.seek.specs.Rules.{marked, Named}
-use Rattle.seek.proofs.Ahead.{entry_of, placed}
+use Rattle.seek.proofs.Ahead.{placed}
 use Rattle.seek.proofs.Letters.{or_none}
 use Rattle.seek.proofs.Ordering.{none_flagged}
 use Rattle.seek.proofs.Standing.{Entries, all_entries, Without, Met, Walking, walk_starts, walk_ends, walk_known, walk_nears, walk_turns, walk_all, later}
@@ -34,15 +34,22 @@ use Rattle.seek.proofs.Holding.{all_go_on}
 
 -- FLAGS
 
-pub marked_told : (flags : List Bool) (entry told : ReadEntry) (z : List Bool) → entry ≡ told → z ≡ marked flags told → z ≡ marked flags entry
+pub marked_told : (flags : List Bool) (entry told : SeekEntry) (z : List Bool) → entry ≡ told → z ≡ marked flags told → z ≡ marked flags entry
 marked_told flags entry told z e h = rw e h
+
+pub marked_other : (flags : List Bool) (entry : SeekEntry) → ((letter from to : ℕ) → entry ≡ Phrase letter from to → ⊥) → flags ≡ marked flags entry
+unfolding marked
+marked_other flags (Start value) h = refl
+marked_other flags (Stop value) h = refl
+marked_other flags (Phrase letter from to) h = absurd (h letter from to refl)
+marked_other flags (Order letters) h = refl
 
 -- a letter is flagged, or is named further on
 abbrev pub named : List Bool → ℕ → List (Placed Entry) → Bool
 named flags letter entries = get_or flags letter false or is_some (phrase_of letter entries)
 
 named_more : (flags : List Bool) (letter name : ℕ) (addresses : Addresses) (others : Option Addresses) → letter < length flags
-    → (get_or flags letter false or is_some ((when name ≡? letter then some addresses else none) or_else others))
+    → (get_or flags letter false or is_some ((when name ≡? letter then Some addresses else None) or_else others))
     ≡ (get_or (set flags name true) letter false or is_some others)
 unfolding when◌then◌else◌ ◌or_else◌ is_some ◌or◌
 named_more flags letter name addresses others long =
@@ -54,22 +61,20 @@ named_more flags letter name addresses others long =
     let e : letter ≡ name → ⊥ = λ q. eqb-false name letter h (sym q) in
     rw (h, get_or-set_other flags name letter true false e) refl)
 
-named_turns : (s : List ℕ) (at : ℕ) (flags : List Bool) (letter : ℕ) (entry : ReadEntry) (rest : Entries) → letter < length flags
+named_turns : (s : List ℕ) (at : ℕ) (flags : List Bool) (letter : ℕ) (entry : SeekEntry) (rest : Entries) → letter < length flags
     → named flags letter (placed s at entry ∷ rest) ≡ named (marked flags entry) letter rest
 unfolding phrase_of first_said entry_of phrase_in marked ◌or_else◌
-named_turns s at flags letter (Start value next) rest long = refl
-named_turns s at flags letter (Stop value next) rest long = refl
-named_turns s at flags letter (Phrase name from to next) rest long = named_more flags letter name _ (phrase_of letter rest) long
-named_turns s at flags letter (Order letters next) rest long = refl
-named_turns s at flags letter Refused rest long = refl
+named_turns s at flags letter (Start value) rest long = refl
+named_turns s at flags letter (Stop value) rest long = refl
+named_turns s at flags letter (Phrase name from to) rest long = named_more flags letter name _ (phrase_of letter rest) long
+named_turns s at flags letter (Order letters) rest long = refl
 
-marked_long : (flags : List Bool) (entry : ReadEntry) → length (marked flags entry) ≡ length flags
+marked_long : (flags : List Bool) (entry : SeekEntry) → length (marked flags entry) ≡ length flags
 unfolding marked
-marked_long flags (Start value next) = refl
-marked_long flags (Stop value next) = refl
-marked_long flags (Phrase letter from to next) = length-set flags letter true
-marked_long flags (Order letters next) = refl
-marked_long flags Refused = refl
+marked_long flags (Start value) = refl
+marked_long flags (Stop value) = refl
+marked_long flags (Phrase letter from to) = length-set flags letter true
+marked_long flags (Order letters) = refl
 
 pub record Flagging (phrases : Bool) (s : List ℕ) (flags : List Bool) (rest : List (Placed Entry)) : Type 0 where
   pub long : length flags ≡ 256
@@ -91,14 +96,14 @@ module _ (phrases : Bool) (s : List ℕ) (flags : List Bool) (at : ℕ) (w : Mar
       let f = walk_ends _ phrases s at w past in
       record { flagged = λ letter k. or_none (get_or flags letter false) (get_or flags letter false) refl ∙ f.same letter k }
 
-  pub marking_turns : (entry : ReadEntry) (next : ℕ) (more : List Bool) → at < length s → entry ≡ next_at (point_width phrases) s at → next ≡ end_of entry
-      → more ≡ marked flags entry → Marking phrases s more next
-  marking_turns entry next more here is ends e =
-      walk_turns _ phrases s at w entry here is next ends _
+  pub marking_turns : (read : Read SeekEntry) (more : List Bool) → at < length s → Some read ≡ next_at (point_width phrases) s at
+      → more ≡ marked flags read.what → Marking phrases s more read.next
+  marking_turns read more here is e =
+      walk_turns _ phrases s at w read here is _
       (λ rest m f. subst (λ (l : List Bool). Flagging phrases s l rest) (sym e)
       (record {
-        long = marked_long flags entry ∙ f.long;
-        same = λ letter k. sym (named_turns s at flags letter entry rest (omega (arith, f.long))) ∙ f.same letter k;
+        long = marked_long flags read.what ∙ f.long;
+        same = λ letter k. sym (named_turns s at flags letter read.what rest (omega (arith, f.long))) ∙ f.same letter k;
       }))
 
 pub ruleset marking = (marking_starts, marking_ends, marking_turns, walk_known, walk_nears)
@@ -123,8 +128,8 @@ no_list all (entry ∷ rest) w = all_go_on _ entry rest (others_hold all entry.p
 
 and_passes : (one : Checked (Unit {0})) → (one >> passed) ≡ one
 unfolding ◌>>◌
-and_passes (fine u) = refl
-and_passes (refused number place) = refl
+and_passes (Ok u) = refl
+and_passes (Err why) = refl
 
 pub record Ordered (s : List ℕ) (all rest : List (Placed Entry)) : Type 0 where
   pub is : lists_hold all rest ≡ letters_named all (order_place rest otherwise 0) (order_list rest otherwise [])
@@ -135,23 +140,23 @@ ordered_none : (s : List ℕ) (all : Entries) → Ordered s all []
 unfolding all_pass order_place order_list first_said ◌otherwise◌ letters_named
 ordered_none s all = record { is = refl; stands = refl; fits = omega arith }
 
-ordered_more : (s : List ℕ) (all : Entries) (at : ℕ) (entry : ReadEntry) (rest : Entries) → Met s at entry rest → Ordered s all rest → Ordered s all (placed s at entry ∷ rest)
-unfolding all_pass ◌>>◌ letters_hold entry_of order_place order_list first_said order_in letters_from ◌or_else◌ ◌otherwise◌ tag is_refused
-ordered_more s all at (Start value next) rest m o = record { is = o.is; stands = o.stands; fits = o.fits }
-ordered_more s all at (Stop value next) rest m o = record { is = o.is; stands = o.stands; fits = o.fits }
-ordered_more s all at (Phrase letter from to next) rest m o = record { is = o.is; stands = o.stands; fits = o.fits }
-ordered_more s all at (Order letters next) rest m o =
+ordered_more : (s : List ℕ) (all : Entries) (at : ℕ) (entry : SeekEntry) (next : ℕ) (rest : Entries) → Met s at (entry up_to next) rest → Ordered s all rest
+    → Ordered s all (placed s at entry ∷ rest)
+unfolding all_pass ◌>>◌ letters_hold entry_of order_place order_list first_said order_in letters_from ◌or_else◌ ◌otherwise◌ tag
+ordered_more s all at (Start value) next rest m o = record { is = o.is; stands = o.stands; fits = o.fits }
+ordered_more s all at (Stop value) next rest m o = record { is = o.is; stands = o.stands; fits = o.fits }
+ordered_more s all at (Phrase letter from to) next rest m o = record { is = o.is; stands = o.stands; fits = o.fits }
+ordered_more s all at (Order letters) next rest m o =
     let long = part_length s (at + 3) letters m.ahead.2 in
     record {
       is = rw (no_list all rest m.last) (and_passes (letters_named all (at + 3) (part s (at + 3) letters)));
       stands = rw long refl;
       fits = omega (arith, long, m.ahead.2);
     }
-ordered_more s all at Refused rest m o = absurd (false≢true (sym m.whole))
 
 module _ (phrases : Bool) (s : List ℕ) (fine-form : is_fine (seek_of (point_width phrases) s) ≡ true) (points : Points) (said : points ≡ points_said (all_entries phrases s)) where
   pub ordered : Ordered s (all_entries phrases s) (all_entries phrases s)
-  ordered = walk_all (Ordered s (all_entries phrases s)) phrases s (ordered_none s (all_entries phrases s)) (ordered_more s (all_entries phrases s)) fine-form
+  ordered = walk_all (Ordered s (all_entries phrases s)) phrases s (ordered_none s (all_entries phrases s)) (λ at read rest. ordered_more s (all_entries phrases s) at read.what read.next rest) fine-form
 
   order_said : points.order ≡ (order_place (all_entries phrases s) otherwise 0)
   unfolding points_said
@@ -191,7 +196,7 @@ lettering_starts phrases s points h said =
     }
 
 module _ (phrases : Bool) (s : List ℕ) (end at : ℕ) (r : Lettering phrases s end at) where
-  pub lettering_ends : end ≤ at → check.Passed ≡ check_answer (order_holds (all_entries phrases s))
+  pub lettering_ends : end ≤ at → Ok tt ≡ check_answer (order_holds (all_entries phrases s))
   unfolding letters_named check_answer
   lettering_ends past =
       let none_left : 0 ≡ end - at = omega arith in
@@ -209,7 +214,7 @@ module _ (phrases : Bool) (s : List ℕ) (end at : ℕ) (r : Lettering phrases s
     unfolding letters_named
     splits = ap (λ (l : List ℕ). check_answer (letters_named (all_entries phrases s) at l)) (sym first) ∙ r.same
 
-    pub lettering_misses : get_or flags (s ! at) false ≡ false → check.Refused 14 at ≡ check_answer (order_holds (all_entries phrases s))
+    pub lettering_misses : get_or flags (s ! at) false ≡ false → refused 14 at ≡ check_answer (order_holds (all_entries phrases s))
     unfolding check_answer
     lettering_misses h = ap check_answer (sym (if_false _ _ _ (sym (n.flagged (s ! at) small) ∙ h))) ∙ splits
 

@@ -8,20 +8,20 @@ use lib.ListN.{length, get_or, set, length-set, replicate, length-replicate}
 use lib.Seq.{get_or-set_same, get_or-set_other}
 use native.Mathlib.Omega.{arith}
 use borrow.Author.Tests.{eq-eqb, ne_eqb, eqb-true, eqb-false, lt-ltb, le-ltb, ltb-false}
-use Rattle.model.specs.Words.{when◌then◌else◌, ◌or◌, ◌<?◌, ◌≡?◌, any, Placed, Checked, Checked.refused, passed, Step.met, walk_to, in_turn}
+use Rattle.model.specs.Words.{when◌then◌else◌, ◌or◌, ◌<?◌, ◌≡?◌, any, Placed, Checked, passed, Step.met, walk_to, in_turn, refused}
+use Rattle.std.specs.Prelude.{Ok, Option, Some, None}
 use Rattle.model.specs.Item.{check_answer}
-use Rattle.model.specs.Seek.{Entry, Entry.start, Entry.stop, Entry.phrase, Entry.order, is_letter, tag, rank, in_order, entry_step, seek_of}
+use Rattle.model.specs.Seek.{Entry, Entry.start, Entry.stop, Entry.phrase, Entry.order, is_letter, tag, rank, in_order, entry_of, entry_step, seek_of}
 use Rattle.model.specs.Track.{point_width}
-use Rattle.model.specs.declared.ReadEntry.{ReadEntry}
-use Rattle.model.specs.declared.ReadEntry.TheVariants.{Start, Stop, Phrase, Order, Refused}
-use Rattle.model.specs.declared.Check.{Check}
-use Rattle.model.specs.declared.Check.TheVariants as check
+use Rattle.model.specs.declared.Read.{Read}
+use Rattle.model.specs.declared.SeekEntry.{SeekEntry}
+use Rattle.model.specs.declared.SeekEntry.TheVariants.{Start, Stop, Phrase, Order}
 use Rattle.model.proofs.Tests.{by_test, if_true, if_false, is_on, is_off}
-use Rattle.model.proofs.Walks.{GoesOn, Left, left_starts, left_ends, left_stuck, left_refused, left_next}
+use Rattle.model.proofs.Walks.{Left, left_starts, left_ends, left_stuck, left_refused, left_next}
 use Rattle.model.proofs.Answers.{answer_first}
-use Rattle.seek.specs.Next.{is_refused, end_of, next_at, rank_of, slot_of}
+use Rattle.seek.specs.Next.{next_at, rank_of, slot_of}
 use Rattle.seek.proofs.Letters.{letter_least, letter_most}
-use Rattle.seek.proofs.Ahead.{EntryAhead, next_ahead, entry_of, placed, step_of, next_steps, entry_goes}
+use Rattle.seek.proofs.Ahead.{Sound, EntryAhead, FoundAhead, next_ahead, placed, step_of, next_steps}
 
 -- SLOTS: one for each tag that an entry can have
 
@@ -77,29 +77,26 @@ same_slot one other k l =
 -- a reader's answer and the entry that it stands for
 
 module _ (s : List ℕ) (at : ℕ) where
-  slot_read : (entry : ReadEntry) → is_refused entry ≡ false → slot (entry_of s at entry) ≡ slot_of entry
-  unfolding is_refused entry_of slot slot_of
-  slot_read (Start value next) h = refl
-  slot_read (Stop value next) h = refl
-  slot_read (Phrase letter from to next) h = refl
-  slot_read (Order letters next) h = refl
-  slot_read Refused h = let z : ◌≡◌ {A = ℕ} 0 1 = cc in absurd (omega arith)
+  slot_read : (entry : SeekEntry) → slot (entry_of s at entry) ≡ slot_of entry
+  unfolding entry_of slot slot_of
+  slot_read (Start value) = refl
+  slot_read (Stop value) = refl
+  slot_read (Phrase letter from to) = refl
+  slot_read (Order letters) = refl
 
-  rank_read : (entry : ReadEntry) → is_refused entry ≡ false → rank (entry_of s at entry) ≡ rank_of entry
-  unfolding is_refused entry_of rank rank_of
-  rank_read (Start value next) h = refl
-  rank_read (Stop value next) h = refl
-  rank_read (Phrase letter from to next) h = refl
-  rank_read (Order letters next) h = refl
-  rank_read Refused h = let z : ◌≡◌ {A = ℕ} 0 1 = cc in absurd (omega arith)
+  rank_read : (entry : SeekEntry) → rank (entry_of s at entry) ≡ rank_of entry
+  unfolding entry_of rank rank_of
+  rank_read (Start value) = refl
+  rank_read (Stop value) = refl
+  rank_read (Phrase letter from to) = refl
+  rank_read (Order letters) = refl
 
-  known_read : (entry : ReadEntry) → EntryAhead at (length s) entry → Known (entry_of s at entry)
+  known_read : (end : ℕ) (entry : SeekEntry) → Sound at end entry → Known (entry_of s at entry)
   unfolding entry_of
-  known_read (Start value next) a = tt
-  known_read (Stop value next) a = tt
-  known_read (Phrase letter from to next) a = a.2
-  known_read (Order letters next) a = tt
-  known_read Refused a = tt
+  known_read end (Start value) a = tt
+  known_read end (Stop value) a = tt
+  known_read end (Phrase letter from to) a = a
+  known_read end (Order letters) a = tt
 
 -- THE CHECK of an entry against those before it
 
@@ -163,7 +160,7 @@ pub record Forming (phrases : Bool) (s : List ℕ) (seen : List Bool) (highest a
   pub remembered : Remembered before seen highest
   pub same : check_answer left ≡ check_answer (seek_of (point_width phrases) s)
 
-pub form_empty : (phrases : Bool) (s : List ℕ) (z : Check) → length s ≡ 0 → z ≡ check.Refused 12 0 → z ≡ check_answer (seek_of (point_width phrases) s)
+pub form_empty : (phrases : Bool) (s : List ℕ) (z : Checked (Unit {0})) → length s ≡ 0 → z ≡ refused 12 0 → z ≡ check_answer (seek_of (point_width phrases) s)
 unfolding seek_of when◌then◌else◌ check_answer
 form_empty phrases s z h e = simp eq-eqb e
 
@@ -180,71 +177,68 @@ form_starts phrases s h =
     }
 
 module _ (phrases : Bool) (s : List ℕ) (seen : List Bool) (highest at : ℕ) (r : Forming phrases s seen highest at) where
-  pub form_ends : length s ≤ at → check.Passed ≡ check_answer (seek_of (point_width phrases) s)
+  pub form_ends : length s ≤ at → Ok tt ≡ check_answer (seek_of (point_width phrases) s)
   unfolding check_answer
   form_ends h = ap check_answer (sym (left_ends _ _ _ _ at r.before r.left r.walk h)) ∙ r.same
 
-  module _ (entry : ReadEntry) (here : at < length s) (is : entry ≡ next_at (point_width phrases) s at) where
-    steps : entry_step (point_width phrases) s at ≡ step_of s at entry
+  module _ (here : at < length s) (found : Option (Read SeekEntry)) (is : found ≡ next_at (point_width phrases) s at) where
+    steps : entry_step (point_width phrases) s at ≡ step_of s at found
     steps = sym (next_steps (point_width phrases) s at) ∙ ap (step_of s at) (sym is)
 
-    ahead : EntryAhead at (length s) entry
-    ahead = subst (EntryAhead at (length s)) (sym is) (next_ahead (point_width phrases) s at)
-
-    pub form_broken : (z : Check) → is_refused entry ≡ true → z ≡ check.Refused 12 at → z ≡ check_answer (seek_of (point_width phrases) s)
+    pub form_broken : (z : Checked (Unit {0})) → found ≡ None → z ≡ refused 12 at → z ≡ check_answer (seek_of (point_width phrases) s)
     unfolding step_of check_answer
     form_broken z h e =
-        e ∙ ap check_answer (sym (left_stuck _ _ _ _ at r.before r.left r.walk 12 at here (steps ∙ if_true _ _ _ h))) ∙ r.same
+        e ∙ ap check_answer (sym (left_stuck _ _ _ _ at r.before r.left r.walk 12 at here (steps ∙ ap (step_of s at) h))) ∙ r.same
 
-    module _ (whole : is_refused entry ≡ false) where
-      meets : entry_step (point_width phrases) s at ≡ met (placed s at entry) (end_of entry)
+    module _ (read : Read SeekEntry) (whole : found ≡ Some read) where
+      ahead : EntryAhead at (length s) read
+      ahead = subst (FoundAhead at (length s)) (sym is ∙ whole) (next_ahead (point_width phrases) s at)
+
+      meets : entry_step (point_width phrases) s at ≡ met (placed s at read.what) read.next
       unfolding step_of
-      meets = steps ∙ if_false _ _ _ whole
+      meets = steps ∙ ap (step_of s at) whole
 
-      goes : (at < end_of entry) × (end_of entry ≤ length s)
-      goes = subst (GoesOn (length s) at) meets (entry_goes (point_width phrases) s at)
-
-      out_of_order : (z : Check) → in_order r.before (placed s at entry) ≡ refused 12 at → z ≡ check.Refused 12 at → z ≡ check_answer (seek_of (point_width phrases) s)
+      out_of_order : (z : Checked (Unit {0})) → in_order r.before (placed s at read.what) ≡ refused 12 at → z ≡ refused 12 at → z ≡ check_answer (seek_of (point_width phrases) s)
       unfolding check_answer
       out_of_order z h e =
-          e ∙ ap check_answer (sym (left_refused _ _ _ _ at r.before r.left r.walk (placed s at entry) (end_of entry) 12 at here meets h)) ∙ r.same
+          e ∙ ap check_answer (sym (left_refused _ _ _ _ at r.before r.left r.walk (placed s at read.what) read.next 12 at here meets h)) ∙ r.same
 
-      module _ (slotted : ℕ) (in-slot : slotted ≡ slot_of entry) where
-        flag : tagged r.before (entry_of s at entry) ≡ get_or seen slotted false
+      module _ (slotted : ℕ) (in-slot : slotted ≡ slot_of read.what) where
+        flag : tagged r.before (entry_of s at read.what) ≡ get_or seen slotted false
         flag =
-            r.remembered.tags (entry_of s at entry) (known_read s at entry ahead)
-            ∙ ap (λ (n : ℕ). get_or seen n false) (slot_read s at entry whole ∙ sym in-slot)
+            r.remembered.tags (entry_of s at read.what) (known_read s at (length s) read.what ahead.2)
+            ∙ ap (λ (n : ℕ). get_or seen n false) (slot_read s at read.what ∙ sym in-slot)
 
-        pub form_twice : (z : Check) → get_or seen slotted false ≡ true → z ≡ check.Refused 12 at → z ≡ check_answer (seek_of (point_width phrases) s)
-        form_twice z h e = out_of_order z (in_order_twice r.before (placed s at entry) (flag ∙ h)) e
+        pub form_twice : (z : Checked (Unit {0})) → get_or seen slotted false ≡ true → z ≡ refused 12 at → z ≡ check_answer (seek_of (point_width phrases) s)
+        form_twice z h e = out_of_order z (in_order_twice r.before (placed s at read.what) (flag ∙ h)) e
 
-        module _ (ranks : ℕ) (of-rank : ranks ≡ rank_of entry) where
-          above : ranked r.before (rank (entry_of s at entry)) ≡ (ranks <? highest)
-          above = r.remembered.ranks _ ∙ ap (λ (n : ℕ). n <? highest) (rank_read s at entry whole ∙ sym of-rank)
+        module _ (ranks : ℕ) (of-rank : ranks ≡ rank_of read.what) where
+          above : ranked r.before (rank (entry_of s at read.what)) ≡ (ranks <? highest)
+          above = r.remembered.ranks _ ∙ ap (λ (n : ℕ). n <? highest) (rank_read s at read.what ∙ sym of-rank)
 
-          pub form_late : (z : Check) → ranks < highest → z ≡ check.Refused 12 at → z ≡ check_answer (seek_of (point_width phrases) s)
-          form_late z h e = out_of_order z (in_order_late r.before (placed s at entry) (above ∙ lt-ltb ranks highest h)) e
+          pub form_late : (z : Checked (Unit {0})) → ranks < highest → z ≡ refused 12 at → z ≡ check_answer (seek_of (point_width phrases) s)
+          form_late z h e = out_of_order z (in_order_late r.before (placed s at read.what) (above ∙ lt-ltb ranks highest h)) e
 
-          pub form_nears : (next : ℕ) → next ≡ end_of entry → length s - next < length s - at
-          form_nears next e = omega (arith, goes)
-
-          pub form_goes_on : (next : ℕ) → slotted < 256 → get_or seen slotted false ≡ false → highest ≤ ranks → next ≡ end_of entry
-              → Forming phrases s (set seen slotted true) ranks next
-          form_goes_on next small first up e =
-              let p : slot (entry_of s at entry) ≡ slotted = slot_read s at entry whole ∙ sym in-slot in
-              let q : rank (entry_of s at entry) ≡ ranks = rank_read s at entry whole ∙ sym of-rank in
-              let n = left_next _ _ _ _ at r.before r.left r.walk (placed s at entry) (end_of entry) here meets goes
-              (in_order_passes r.before (placed s at entry) (flag ∙ first) (above ∙ le-ltb ranks highest up)) in
+          pub form_goes_on : slotted < 256 → get_or seen slotted false ≡ false → highest ≤ ranks
+              → Forming phrases s (set seen slotted true) ranks read.next
+          form_goes_on small first up =
+              let p : slot (entry_of s at read.what) ≡ slotted = slot_read s at read.what ∙ sym in-slot in
+              let q : rank (entry_of s at read.what) ≡ ranks = rank_read s at read.what ∙ sym of-rank in
+              let n = left_next _ _ _ _ at r.before r.left r.walk (placed s at read.what) read.next here meets (ahead.0, ahead.1)
+              (in_order_passes r.before (placed s at read.what) (flag ∙ first) (above ∙ le-ltb ranks highest up)) in
               record {
-                before = placed s at entry ∷ r.before;
+                before = placed s at read.what ∷ r.before;
                 left = n.0;
-                walk = subst (λ (k : ℕ). Left 12 (length s) (entry_step (point_width phrases) s) in_order k (placed s at entry ∷ r.before) n.0) (sym e) n.1;
+                walk = n.1;
                 long = length-set seen slotted true ∙ r.long;
                 remembered =
-                    subst (λ (k : ℕ). Remembered (placed s at entry ∷ r.before) (set seen k true) ranks) p
-                    (subst (Remembered (placed s at entry ∷ r.before) (set seen (slot (entry_of s at entry)) true)) q
-                    (remember r.before seen highest r.remembered (placed s at entry) (known_read s at entry ahead) (omega (arith, r.long)) (omega arith)));
-                same = sym (answer_first (placed s at entry) n.0) ∙ ap check_answer (sym n.2) ∙ r.same;
+                    subst (λ (k : ℕ). Remembered (placed s at read.what ∷ r.before) (set seen k true) ranks) p
+                    (subst (Remembered (placed s at read.what ∷ r.before) (set seen (slot (entry_of s at read.what)) true)) q
+                    (remember r.before seen highest r.remembered (placed s at read.what) (known_read s at (length s) read.what ahead.2) (omega (arith, r.long)) (omega arith)));
+                same = sym (answer_first (placed s at read.what) n.0) ∙ ap check_answer (sym n.2) ∙ r.same;
               }
+
+      pub form_nears : length s - read.next < length s - at
+      form_nears = omega (arith, ahead)
 
 pub ruleset forming = (form_empty, form_starts, form_ends, form_broken, form_twice, form_late, form_nears, form_goes_on, is_on, is_off)

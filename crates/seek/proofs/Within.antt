@@ -2,19 +2,21 @@
 use Prim.Native.Nat.{ℕ, suc, ◌+◌, ◌≤◌}
 use mathlib.Core.List.{List, [], ◌∷◌}
 use mathlib.Core.Bool.{Bool, true, false}
-use mathlib.Core.Path.{◌≡◌, refl, sym, ◌∙◌, ap₂, subst}
+use mathlib.Core.Path.{◌≡◌, refl, sym, ◌∙◌, ap, ap₂, subst}
 use lib.ListN.{length}
 use native.Mathlib.Omega.{arith}
-use Rattle.model.specs.Words.{when◌then◌else◌, ◌≡?◌, is_some, Placed, Checked, Checked.fine, Checked.refused, ◌>>◌, all_pass, Step, Step.met, Step.stuck, walk_to, in_turn}
-use Rattle.model.specs.Bytes.{part}
+use Rattle.model.specs.Words.{when◌then◌else◌, ◌≡?◌, is_some, Placed, Checked, ◌>>◌, all_pass, Step, Step.met, Step.stuck, walk_to, in_turn, refused}
+use Rattle.std.specs.Prelude.{Ok, Err, Option, Some, None}
 use Rattle.model.specs.Item.{is_fine, found}
-use Rattle.model.specs.Seek.{Entry, Entry.start, Entry.stop, Entry.phrase, Entry.order, entry_at, followed, entry_met, entry_step, in_order, seek_of, phrase_of}
+use Rattle.model.specs.Seek.{Entry, Entry.start, Entry.stop, Entry.phrase, Entry.order, entry_at, entry_of, followed, entry_met, entry_step, in_order, seek_of, phrase_of}
 use Rattle.model.specs.Item.{Item}
 use Rattle.model.specs.Points.{is_address, is_position, points_hold, letters_named, letters_hold, order_holds}
 use Rattle.model.specs.Track.{point_width, points_of}
 use Rattle.model.specs.declared.Event.{Event}
-use Rattle.model.specs.declared.ReadEntry.{ReadEntry}
-use Rattle.model.specs.declared.ReadEntry.TheVariants.{Start, Stop, Phrase, Order, Refused}
+use Rattle.model.specs.declared.Refusal.{Refusal}
+use Rattle.model.specs.declared.Read.{Read}
+use Rattle.model.specs.declared.SeekEntry.{SeekEntry}
+use Rattle.model.specs.declared.SeekEntry.TheVariants.{Start, Stop, Phrase, Order}
 use Rattle.model.proofs.Parts.{part_short}
 use Rattle.model.proofs.Tests.{if_all, if_true, if_false, by_test}
 use Rattle.model.proofs.Walks.{Stand, GoesOn, refused_within}
@@ -37,23 +39,32 @@ unfolding followed
 followed_at s at next entry h =
     if_all (AtPlace s at) _ _ _ (λ i. (refl, h)) (λ i. if_all (AtPlace s at) _ _ _ (λ j. (refl, h)) (λ j. refl))
 
-entry_met_at : (s : List ℕ) (at : ℕ) (entry : ReadEntry) → AtPlace s at (entry_met s at entry)
+letters_in : (s : List ℕ) (at : ℕ) (entry : SeekEntry) → LettersIn s (entry_of s at entry)
+unfolding entry_of
+letters_in s at (Start value) = tt
+letters_in s at (Stop value) = tt
+letters_in s at (Phrase letter from to) = tt
+letters_in s at (Order letters) = part_short s (at + 3) letters
+
+entry_met_at : (s : List ℕ) (at : ℕ) (read : Option (Read SeekEntry)) → AtPlace s at (entry_met s at read)
 unfolding entry_met
-entry_met_at s at (Start value next) = followed_at s at next (start value) tt
-entry_met_at s at (Stop value next) = followed_at s at next (stop value) tt
-entry_met_at s at (Phrase letter from to next) = followed_at s at next (phrase letter from to) tt
-entry_met_at s at (Order letters next) = followed_at s at next (order (part s (at + 3) letters)) (part_short s (at + 3) letters)
-entry_met_at s at Refused = refl
+entry_met_at s at (Some read) = followed_at s at read.next (entry_of s at read.what) (letters_in s at read.what)
+entry_met_at s at None = refl
 
 pub entry_at_lem : (width : ℕ) (s : List ℕ) (at : ℕ) → AtPlace s at (entry_step width s at)
 unfolding entry_step
 entry_at_lem width s at = entry_met_at s at (entry_at width s at)
 
+same_place : {A : Type 0} (n m at place : ℕ) → ◌≡◌ {A = Checked A} (refused n at) (refused m place) → at ≡ place
+same_place {A} n m at place e =
+    let r : ◌≡◌ {A = Refusal} (record { number = n; place = at }) (record { number = m; place = place }) = cc in
+    ap (λ (why : Refusal). why.place) r
+
 -- 12
 
 abbrev RefusedAt : ℕ → Checked (Unit {0}) → Type 0
-RefusedAt at (fine u) = Unit
-RefusedAt at (refused number place) = place ≡ at
+RefusedAt at (Ok u) = Unit
+RefusedAt at (Err why) = why.place ≡ at
 
 order_at : (before : List (Placed Entry)) (entry : Placed Entry) → RefusedAt entry.place (in_order before entry)
 unfolding in_order
@@ -64,7 +75,7 @@ unfolding seek_of when◌then◌else◌ walk_to
 form_refused_within width s n place e = go (length s ≡? 0) e
   where
     go : (t : Bool) → (when t then refused 12 0 else in_turn in_order [] (walk_to 12 (length s) (entry_step width s) 0)) ≡ refused n place → place ≤ length s
-    go true q = let same : ◌≡◌ {A = ℕ} 0 place = cc in omega arith
+    go true q = let same = same_place 12 n 0 place q in omega arith
     go false q =
         refused_within 12 (length s) (entry_step width s) in_order (λ at h. entry_goes width s at)
         (λ at m there h is. let a = subst (AtPlace s at) is (entry_at_lem width s at) in omega arith)
@@ -79,10 +90,10 @@ form_refused_within width s n place e = go (length s ≡? 0) e
 then_refused : {A : Type 0} (c : Checked (Unit {0})) (rest : Checked A) (n place : ℕ) (X : Type 0) → (c >> rest) ≡ refused n place
     → (c ≡ refused n place → X) → (rest ≡ refused n place → X) → X
 unfolding ◌>>◌
-then_refused (fine u) rest n place X e f g = g e
-then_refused {A} (refused m there) rest n place X e f g =
-    let same : m ≡ n = cc in
-    let here : there ≡ place = cc in
+then_refused (Ok u) rest n place X e f g = g e
+then_refused {A} (Err why) rest n place X e f g =
+    let same : why.number ≡ n = cc in
+    let here : why.place ≡ place = cc in
     f (ap₂ refused same here)
 
 module _ (width : ℕ) (s : List ℕ) (test : Placed Entry → Checked (Unit {0})) (n place bound : ℕ)
@@ -105,7 +116,7 @@ letters_within entries [] at n place e = let z : ◌≡◌ {A = ℕ} 0 1 = cc in
 letters_within entries (letter ∷ letters) at n place e =
     by_test (is_some (phrase_of letter entries))
     (λ h. let r = letters_within entries letters (at + 1) n place (sym (if_true _ _ _ h) ∙ e) in omega arith)
-    (λ h. let q = sym (if_false (is_some (phrase_of letter entries)) (letters_named entries (at + 1) letters) (refused 14 at) h) ∙ e in let same : at ≡ place = cc in omega arith)
+    (λ h. let q = sym (if_false (is_some (phrase_of letter entries)) (letters_named entries (at + 1) letters) (refused 14 at) h) ∙ e in let same = same_place _ _ at place q in omega arith)
 
 order_within : (s : List ℕ) (entries : List (Placed Entry)) (entry : Placed Entry) (n place : ℕ) → entry.place ≤ length s
     → (what : Entry) → LettersIn s what → letters_hold entries entry.place what ≡ refused n place → place ≤ length s + length s + 3

@@ -1,17 +1,16 @@
 -- What one entry says, as a reader's answer has it: how it adds to the points said before it, and the phrase that it names.
-use Rattle.std.specs.Prelude.{ℕ, ◌+◌, true, false}
+use Rattle.std.specs.Prelude.{ℕ, ◌+◌, true, false, Option, Some, None}
 use Rattle.model.specs.Words.{when◌then◌else◌, ◌≡?◌}
 use Rattle.model.specs.declared.Points.{Points}
-use Rattle.model.specs.declared.FoundPhrase.{FoundPhrase}
-use Rattle.model.specs.declared.FoundPhrase.TheVariants.{Between, Nowhere}
-use Rattle.model.specs.declared.ReadEntry.{ReadEntry}
-use Rattle.model.specs.declared.ReadEntry.TheVariants.{Start, Stop, Phrase, Order, Refused}
+use Rattle.model.specs.declared.PhraseAddresses.{PhraseAddresses}
+use Rattle.model.specs.declared.SeekEntry.{SeekEntry}
+use Rattle.model.specs.declared.SeekEntry.TheVariants.{Start, Stop, Phrase, Order}
 
 abbrev pub nothing : Points
 nothing = record { starts = false; start = 0; stops = false; stop = 0; ordered = false; order = 0; letters = 0 }
 
-unfoldable pub noted : Points → ℕ → ReadEntry → Points
-noted points at (Start value next) =
+unfoldable pub noted : Points → ℕ → SeekEntry → Points
+noted points at (Start value) =
     record {
       starts = true;
       start = value;
@@ -21,7 +20,7 @@ noted points at (Start value next) =
       order = points.order;
       letters = points.letters;
     }
-noted points at (Stop value next) =
+noted points at (Stop value) =
     record {
       starts = points.starts;
       start = points.start;
@@ -31,8 +30,8 @@ noted points at (Stop value next) =
       order = points.order;
       letters = points.letters;
     }
-noted points at (Phrase letter from to next) = points
-noted points at (Order letters next) =
+noted points at (Phrase letter from to) = points
+noted points at (Order letters) =
     record {
       starts = points.starts;
       start = points.start;
@@ -42,11 +41,9 @@ noted points at (Order letters next) =
       order = at + 3;
       letters = letters;
     }
-noted points at Refused = points
 
-unfoldable pub phrase_named : ℕ → ReadEntry → FoundPhrase
-phrase_named wanted (Start value next) = Nowhere
-phrase_named wanted (Stop value next) = Nowhere
-phrase_named wanted (Phrase letter from to next) = when letter ≡? wanted then Between from to else Nowhere
-phrase_named wanted (Order letters next) = Nowhere
-phrase_named wanted Refused = Nowhere
+unfoldable pub phrase_named : ℕ → SeekEntry → Option PhraseAddresses
+phrase_named wanted (Start value) = None
+phrase_named wanted (Stop value) = None
+phrase_named wanted (Phrase letter from to) = when letter ≡? wanted then Some (record { start = from; stop = to }) else None
+phrase_named wanted (Order letters) = None

@@ -5,40 +5,18 @@ ghost use Rattle.model.specs.Bytes.{◌!◌, number};
 ghost use Rattle.model.specs.Seek.{is_letter, letters_in_front, phrase_at, data_at, entry_at};
 ghost use Rattle.model.specs.Track.{point_width};
 
-use model::ReadEntry;
-use numbers::{number_4, same_tag};
+use model::{Read, SeekEntry};
+use numbers::{number_at, stands_at};
 
+#[tactic(auto, using(model::proofs::Tests::tests, model::proofs::Tests::junctions, crate::proofs::Letters::letters), unfolding(model::specs::Seek::is_letter, model::specs::Words::any))]
 pub fn is_letter(byte: u8) -> bool
     ensures { result ≡ is_letter byte }
 {
-    if 0x7A < byte {
-        return false;
-    }
-    if 0x61 <= byte {
-        return true;
-    }
-    if 0x41 == byte {
-        return true;
-    }
-    if 0x42 == byte {
-        return true;
-    }
-    if 0x45 == byte {
-        return true;
-    }
-    if 0x49 == byte {
-        return true;
-    }
-    if 0x4B == byte {
-        return true;
-    }
-    if 0x53 == byte {
-        return true;
-    }
-    0x52 == byte
+    byte <= b'z' && (b'a' <= byte || matches!(byte, b'A' | b'B' | b'E' | b'I' | b'K' | b'R' | b'S'))
 }
 
-// How many letters stand from a place on, up to the first byte that is none.
+// How many letters stand from a place on, up to the first byte that is none. Counted by hand: with `take_while` an order
+// of 58,000 letters is refused in 1.25 times what the baseline takes, so in 1.22.
 pub fn letters_in_front(s: &[u8], at: usize) -> usize
     requires { at ≤ length s.now }
     ensures { result ≡ letters_in_front (drop at s.now) }
@@ -76,83 +54,86 @@ fn read_point(phrases: bool, s: &[u8], at: usize) -> u32
     if phrases {
         return wide(s[at]);
     }
-    number_4(s, at)
+    number_at::<4>(s, at)
 }
 
 // A point or an order list, whose data stand behind their tag and colon.
-fn read_data(phrases: bool, s: &[u8], at: usize) -> ReadEntry
+#[tactic(auto, using(crate::proofs::Letters::letters_fit, model::proofs::Tests::tests, crate::proofs::Data::read), unfolding(model::specs::Seek::data_at))]
+fn read_data(phrases: bool, s: &[u8], at: usize) -> Option<Read<SeekEntry>>
     requires at_in_bounds { at + 3 ≤ length s.now }
     requires s_len_bound { length s.now ≤ 65536 }
     ensures { result ≡ data_at (point_width phrases) s.now (number 2 s.now at) (at + 3) }
 {
     let from = at + 3;
     let next = from + point_width(phrases);
-    if same_tag(s, at, b"st") {
+    if stands_at(s, at, b"st") {
         if s.len() < next {
-            return ReadEntry::Refused;
+            return None;
         }
-        return ReadEntry::Start {
-            value: read_point(phrases, s, from),
+        return Some(Read {
+            what: SeekEntry::Start(read_point(phrases, s, from)),
             next,
-        };
+        });
     }
-    if same_tag(s, at, b"sp") {
+    if stands_at(s, at, b"sp") {
         if s.len() < next {
-            return ReadEntry::Refused;
+            return None;
         }
-        return ReadEntry::Stop {
-            value: read_point(phrases, s, from),
+        return Some(Read {
+            what: SeekEntry::Stop(read_point(phrases, s, from)),
             next,
-        };
+        });
     }
-    if !same_tag(s, at, b"SL") {
-        return ReadEntry::Refused;
+    if !stands_at(s, at, b"SL") {
+        return None;
     }
     let letters = letters_in_front(s, from);
-    ReadEntry::Order {
-        letters,
+    Some(Read {
+        what: SeekEntry::Order { letters },
         next: from + letters,
-    }
+    })
 }
 
 // A phrase's start and stop address.
-fn read_phrase(s: &[u8], letter: u8, at: usize) -> ReadEntry
+#[tactic(auto, using(model::proofs::Tests::tests, crate::proofs::Data::phrase_is), unfolding(model::specs::Seek::phrase_at))]
+fn read_phrase(s: &[u8], letter: u8, at: usize) -> Option<Read<SeekEntry>>
     requires at_in_bounds { at ≤ length s.now }
     requires s_len_bound { length s.now ≤ 65536 }
     ensures { result ≡ phrase_at s.now letter at }
 {
     if s.len() < at + 8 {
-        return ReadEntry::Refused;
+        return None;
     }
-    ReadEntry::Phrase {
-        letter,
-        start: number_4(s, at),
-        stop: number_4(s, at + 4),
+    Some(Read {
+        what: SeekEntry::Phrase {
+            letter,
+            start: number_at::<4>(s, at),
+            stop: number_at::<4>(s, at + 4),
+        },
         next: at + 8,
-    }
+    })
 }
 
 // Whether a phrase's tag stands at a place.
+#[tactic(auto, using(model::proofs::Tests::tests, model::proofs::Tests::junctions))]
 fn is_phrase(s: &[u8], at: usize) -> bool
     requires { at + 2 ≤ length s.now }
     ensures { result ≡ ((s.now ! at ≡? 0x50) and is_letter (s.now ! (at + 1))) }
 {
-    if s[at] != 0x50 {
-        return false;
-    }
-    is_letter(s[at + 1])
+    s[at] == 0x50 && is_letter(s[at + 1])
 }
 
-pub fn read_entry(phrases: bool, s: &[u8], at: usize) -> ReadEntry
+#[tactic(auto, using(model::proofs::Tests::tests, model::proofs::Tests::junctions), unfolding(model::specs::Seek::entry_at))]
+pub fn read_entry(phrases: bool, s: &[u8], at: usize) -> Option<Read<SeekEntry>>
     requires at_in_bounds { at ≤ length s.now }
     requires s_len_bound { length s.now ≤ 65536 }
     ensures { result ≡ entry_at (point_width phrases) s.now at }
 {
     if s.len() < at + 3 {
-        return ReadEntry::Refused;
+        return None;
     }
     if s[at + 2] != 0x3A {
-        return ReadEntry::Refused;
+        return None;
     }
     if is_phrase(s, at) {
         return read_phrase(s, s[at + 1], at + 3);

@@ -13,6 +13,5 @@ mod said;
 pub use entry::{is_letter, letters_in_front, read_entry};
 pub use form::check_form;
 pub use known::read_known;
-pub use next::end_of;
 pub use points::check_points;
 pub use said::{find_phrase, read_points};

@@ -7,34 +7,21 @@ ghost use Rattle.model.specs.Track.{point_width};
 ghost use Rattle.seek.specs.Rules.{Named, marked};
 
 use super::known::read_known;
-use super::next::end_of;
 use super::said::read_points;
-use model::{Check, ReadEntry};
+use model::{Read, Refusal, SeekEntry, refused};
 
 // A phrase's letter is flagged.
-fn mark(flags: &mut [bool; 256], entry: ReadEntry)
+#[tactic(auto, using(crate::proofs::Naming::marked_told, crate::proofs::Naming::marked_other), unfolding(crate::specs::Rules::marked))]
+fn mark(flags: &mut [bool; 256], entry: SeekEntry)
     ensures { flags.new ≡ marked flags.old entry }
 {
-    match entry {
-        ReadEntry::Start { value: _, next: _ } => {}
-        ReadEntry::Stop { value: _, next: _ } => {}
-        ReadEntry::Phrase {
-            letter,
-            start: _,
-            stop: _,
-            next: _,
-        } => {
-            flags[letter as usize] = true;
-        }
-        ReadEntry::Order {
-            letters: _,
-            next: _,
-        } => {}
-        ReadEntry::Refused => {}
+    if let SeekEntry::Phrase { letter, .. } = entry {
+        flags[letter as usize] = true;
     }
 }
 
 // For each letter whether it has a phrase.
+#[tactic(auto, using(crate::proofs::Naming::marking))]
 fn name_letters(phrases: bool, s: &[u8]) -> [bool; 256]
     requires s_len_bound { length s.now ≤ 65536 }
     requires s_value { is_fine (seek_of (point_width phrases) s.now) ≡ true }
@@ -43,9 +30,9 @@ fn name_letters(phrases: bool, s: &[u8]) -> [bool; 256]
     let mut flags = [false; 256];
     let mut at: usize = 0;
     while at < s.len() {
-        let entry = read_known(phrases, s, at);
+        let Read { what: entry, next } = read_known(phrases, s, at);
         mark(&mut flags, entry);
-        at = end_of(entry);
+        at = next;
     }
     flags
 }
@@ -56,7 +43,8 @@ fn is_named(flags: &[bool; 256], letter: u8) -> bool
     flags[letter as usize]
 }
 
-pub fn check_letters(phrases: bool, s: &[u8]) -> Check
+#[tactic(auto, using(crate::proofs::Naming::lettering))]
+pub fn check_letters(phrases: bool, s: &[u8]) -> Result<(), Refusal>
     requires s_len_bound { length s.now ≤ 65536 }
     requires s_value { is_fine (seek_of (point_width phrases) s.now) ≡ true }
     ensures { result ≡ check_answer (order_holds (found (seek_of (point_width phrases) s.now))) }
@@ -67,12 +55,9 @@ pub fn check_letters(phrases: bool, s: &[u8]) -> Check
     let mut at = points.order;
     while at < end {
         if !is_named(&flags, s[at]) {
-            return Check::Refused {
-                number: 14,
-                place: at,
-            };
+            return refused(14, at);
         }
         at += 1;
     }
-    Check::Passed
+    Ok(())
 }

@@ -8,12 +8,12 @@ ghost use Rattle.model.specs.Track.{point_width, points_of};
 ghost use Rattle.seek.specs.Rules.{address_in, entries_hold, entry_holds, point_in};
 
 use super::known::read_known;
-use super::next::end_of;
 use super::order::check_letters;
 use super::said::read_points;
 use items::is_address_from;
-use model::{Check, Points, ReadEntry, Voice};
+use model::{Points, Read, Refusal, SeekEntry, Voice, refused};
 
+#[tactic(auto, using(items::proofs::Addresses::head_there))]
 fn is_address(voice: Voice, body: &[u8], address: u32) -> bool
     requires body_len_bound { length body.now ≤ 65536 }
     requires body_value { is_fine (body_of voice body.now) ≡ true }
@@ -22,6 +22,7 @@ fn is_address(voice: Voice, body: &[u8], address: u32) -> bool
     is_address_from(voice, body, 0, address as usize)
 }
 
+#[tactic(auto, using(crate::proofs::Holding::spans))]
 fn is_span(voice: Voice, body: &[u8], start: u32, stop: u32) -> bool
     requires body_len_bound { length body.now ≤ 65536 }
     requires body_value { is_fine (body_of voice body.now) ≡ true }
@@ -37,6 +38,7 @@ fn is_span(voice: Voice, body: &[u8], start: u32, stop: u32) -> bool
 }
 
 // Whether a value is a point: an address, or with phrases a position in a list of so many letters.
+#[tactic(auto, using(crate::proofs::Holding::numbered))]
 fn is_point(voice: Voice, phrases: bool, body: &[u8], letters: usize, value: u32) -> bool
     requires body_len_bound { length body.now ≤ 65536 }
     requires body_value { is_fine (body_of voice body.now) ≡ true }
@@ -49,6 +51,7 @@ fn is_point(voice: Voice, phrases: bool, body: &[u8], letters: usize, value: u32
 }
 
 // Whether a stop point is one, and not before the start.
+#[tactic(auto, using(crate::proofs::Holding::numbered, model::proofs::Tests::tests, model::proofs::Tests::junctions))]
 fn is_stop(voice: Voice, phrases: bool, body: &[u8], points: Points, value: u32) -> bool
     requires body_len_bound { length body.now ≤ 65536 }
     requires body_value { is_fine (body_of voice body.now) ≡ true }
@@ -61,35 +64,22 @@ fn is_stop(voice: Voice, phrases: bool, body: &[u8], points: Points, value: u32)
 }
 
 // Whether an entry keeps the rules, beside what all entries say.
-fn entry_holds(voice: Voice, phrases: bool, body: &[u8], points: Points, entry: ReadEntry) -> bool
+#[tactic(auto, using(crate::proofs::Holding::holds_told), unfolding(crate::specs::Rules::entry_holds))]
+fn entry_holds(voice: Voice, phrases: bool, body: &[u8], points: Points, entry: SeekEntry) -> bool
     requires body_len_bound { length body.now ≤ 65536 }
     requires body_value { is_fine (body_of voice body.now) ≡ true }
     ensures { result ≡ entry_holds (address_in voice body.now) (point_in voice phrases body.now points.letters) points.start entry }
 {
     match entry {
-        ReadEntry::Start { value, next: _ } => is_point(
-            voice,
-            phrases,
-            body,
-            points.letters,
-            value,
-        ),
-        ReadEntry::Stop { value, next: _ } => is_stop(voice, phrases, body, points, value),
-        ReadEntry::Phrase {
-            letter: _,
-            start,
-            stop,
-            next: _,
-        } => is_span(voice, body, start, stop),
-        ReadEntry::Order {
-            letters: _,
-            next: _,
-        } => true,
-        ReadEntry::Refused => true,
+        SeekEntry::Start(value) => is_point(voice, phrases, body, points.letters, value),
+        SeekEntry::Stop(value) => is_stop(voice, phrases, body, points, value),
+        SeekEntry::Phrase { start, stop, .. } => is_span(voice, body, start, stop),
+        SeekEntry::Order { .. } => true,
     }
 }
 
-fn check_entries(voice: Voice, phrases: bool, body: &[u8], s: &[u8]) -> Check
+#[tactic(auto, using(crate::proofs::Holding::holding))]
+fn check_entries(voice: Voice, phrases: bool, body: &[u8], s: &[u8]) -> Result<(), Refusal>
     requires body_len_bound { length body.now ≤ 65536 }
     requires body_value { is_fine (body_of voice body.now) ≡ true }
     requires s_len_bound { length s.now ≤ 65536 }
@@ -99,32 +89,25 @@ fn check_entries(voice: Voice, phrases: bool, body: &[u8], s: &[u8]) -> Check
     let points = read_points(phrases, s);
     let mut at: usize = 0;
     while at < s.len() {
-        let entry = read_known(phrases, s, at);
+        let Read { what: entry, next } = read_known(phrases, s, at);
         if !entry_holds(voice, phrases, body, points, entry) {
-            return Check::Refused {
-                number: 13,
-                place: at,
-            };
+            return refused(13, at);
         }
-        at = end_of(entry);
+        at = next;
     }
-    Check::Passed
+    Ok(())
 }
 
-pub fn check_points(voice: Voice, phrases: bool, body: &[u8], s: &[u8]) -> Check
+pub fn check_points(voice: Voice, phrases: bool, body: &[u8], s: &[u8]) -> Result<(), Refusal>
     requires body_len_bound { length body.now ≤ 65536 }
     requires body_value { is_fine (body_of voice body.now) ≡ true }
     requires s_len_bound { length s.now ≤ 65536 }
     requires s_value { is_fine (seek_of (point_width phrases) s.now) ≡ true }
     ensures { result ≡ check_answer (points_of phrases (items_of voice body.now) (length body.now) (found (seek_of (point_width phrases) s.now))) }
 {
-    match check_entries(voice, phrases, body, s) {
-        Check::Passed => {
-            if phrases {
-                return check_letters(phrases, s);
-            }
-            Check::Passed
-        }
-        Check::Refused { number, place } => Check::Refused { number, place },
+    check_entries(voice, phrases, body, s)?;
+    if phrases {
+        return check_letters(phrases, s);
     }
+    Ok(())
 }

@@ -6,42 +6,35 @@ ghost use Rattle.model.specs.Track.{point_width};
 ghost use Rattle.seek.specs.Said.{noted, phrase_named};
 
 use super::known::read_known;
-use super::next::end_of;
-use model::{FoundPhrase, Points, ReadEntry};
+use model::{PhraseAddresses, Points, Read, SeekEntry};
 
 // The points said so far, with what the entry at a place adds.
-fn note(points: Points, at: usize, entry: ReadEntry) -> Points
+#[tactic(auto, using(crate::proofs::Cases::noted_told), unfolding(crate::specs::Said::noted))]
+fn note(points: Points, at: usize, entry: SeekEntry) -> Points
     requires { at < 65536 }
     ensures { result ≡ noted points at entry }
 {
     let mut said = points;
     match entry {
-        ReadEntry::Start { value, next: _ } => {
+        SeekEntry::Start(value) => {
             said.starts = true;
             said.start = value;
-            said
         }
-        ReadEntry::Stop { value, next: _ } => {
+        SeekEntry::Stop(value) => {
             said.stops = true;
             said.stop = value;
-            said
         }
-        ReadEntry::Phrase {
-            letter: _,
-            start: _,
-            stop: _,
-            next: _,
-        } => said,
-        ReadEntry::Order { letters, next: _ } => {
+        SeekEntry::Phrase { .. } => {}
+        SeekEntry::Order { letters } => {
             said.ordered = true;
             said.order = at + 3;
             said.letters = letters;
-            said
         }
-        ReadEntry::Refused => said,
     }
+    said
 }
 
+#[tactic(auto, using(crate::proofs::Saying::pointing))]
 pub fn read_points(phrases: bool, s: &[u8]) -> Points
     requires s_len_bound { length s.now ≤ 65536 }
     requires s_value { is_fine (seek_of (point_width phrases) s.now) ≡ true }
@@ -58,54 +51,45 @@ pub fn read_points(phrases: bool, s: &[u8]) -> Points
     };
     let mut at: usize = 0;
     while at < s.len() {
-        let entry = read_known(phrases, s, at);
+        let Read { what: entry, next } = read_known(phrases, s, at);
         points = note(points, at, entry);
-        at = end_of(entry);
+        at = next;
     }
     points
 }
 
 // The phrase that an entry names, where it is the letter's.
-fn phrase_in(letter: u8, entry: ReadEntry) -> FoundPhrase
-    ensures { result ≡ phrase_named letter entry }
+#[tactic(auto, using(model::proofs::Tests::tests, crate::proofs::Cases::named_told, crate::proofs::Cases::named_other), unfolding(crate::specs::Said::phrase_named))]
+fn phrase_in(wanted: u8, entry: SeekEntry) -> Option<PhraseAddresses>
+    ensures { result ≡ phrase_named wanted entry }
 {
-    match entry {
-        ReadEntry::Start { value: _, next: _ } => FoundPhrase::Nowhere,
-        ReadEntry::Stop { value: _, next: _ } => FoundPhrase::Nowhere,
-        ReadEntry::Phrase {
-            letter: named,
-            start,
-            stop,
-            next: _,
-        } => if named == letter {
-            FoundPhrase::Between { start, stop }
-        } else {
-            FoundPhrase::Nowhere
-        },
-        ReadEntry::Order {
-            letters: _,
-            next: _,
-        } => FoundPhrase::Nowhere,
-        ReadEntry::Refused => FoundPhrase::Nowhere,
+    let SeekEntry::Phrase {
+        letter,
+        start,
+        stop,
+    } = entry
+    else {
+        return None;
+    };
+    if letter != wanted {
+        return None;
     }
+    Some(PhraseAddresses { start, stop })
 }
 
-pub fn find_phrase(phrases: bool, s: &[u8], letter: u8) -> FoundPhrase
+#[tactic(auto, using(crate::proofs::Saying::searching))]
+pub fn find_phrase(phrases: bool, s: &[u8], letter: u8) -> Option<PhraseAddresses>
     requires s_len_bound { length s.now ≤ 65536 }
     requires s_value { is_fine (seek_of (point_width phrases) s.now) ≡ true }
     ensures { result ≡ found_phrase (phrase_of letter (found (seek_of (point_width phrases) s.now))) }
 {
     let mut at: usize = 0;
     while at < s.len() {
-        let entry = read_known(phrases, s, at);
-        match phrase_in(letter, entry) {
-            FoundPhrase::Between { start, stop } => {
-                return FoundPhrase::Between { start, stop };
-            }
-            FoundPhrase::Nowhere => {
-                at = end_of(entry);
-            }
+        let Read { what: entry, next } = read_known(phrases, s, at);
+        if let Some(phrase) = phrase_in(letter, entry) {
+            return Some(phrase);
         }
+        at = next;
     }
-    FoundPhrase::Nowhere
+    None
 }

@@ -4,7 +4,7 @@ ghost use Rattle.std.specs.Prelude.{◌≡◌, length};
 ghost use Rattle.model.specs.Answer.{flatten_of, flatten_answer, flatten_room};
 ghost use Rattle.smaf_c.specs.Replies.{flatten_reply};
 
-use model::FlattenAnswer;
+use model::Refusal;
 
 // What C gets: so many bytes; or the refusal and its place.
 #[repr(C)]
@@ -15,20 +15,23 @@ pub struct FlattenReply {
     pub length: usize,
 }
 
-fn flatten_reply(answer: FlattenAnswer) -> FlattenReply
-    ensures { result ≡ flatten_reply answer }
-{
-    match answer {
-        FlattenAnswer::Bytes { length } => FlattenReply {
-            refusal: 0,
-            place: 0,
-            length,
-        },
-        FlattenAnswer::Refused { number, place } => FlattenReply {
-            refusal: number,
-            place,
-            length: 0,
-        },
+impl From<Result<usize, Refusal>> for FlattenReply {
+    ghost from_gives = { λ answer reply. reply ≡ flatten_reply answer };
+
+    #[tactic(auto, unfolding(crate::specs::Replies::flatten_reply))]
+    fn from(answer: Result<usize, Refusal>) -> FlattenReply {
+        match answer {
+            Ok(length) => FlattenReply {
+                refusal: 0,
+                place: 0,
+                length,
+            },
+            Err(Refusal { number, place }) => FlattenReply {
+                refusal: number,
+                place,
+                length: 0,
+            },
+        }
     }
 }
 
@@ -37,5 +40,5 @@ pub extern "C" fn smaf_flatten(buffer: &[u8], n: usize, row: usize, room: &mut [
     ensures value { result ≡ flatten_reply (flatten_answer (flatten_of buffer.now n row (length room.old))) }
     ensures room_after { room.new ≡ flatten_room room.old (flatten_of buffer.now n row (length room.old)) }
 {
-    flatten_reply(flattening::flatten(buffer, n, row, room))
+    flattening::flatten(buffer, n, row, room).into()
 }

@@ -3,7 +3,7 @@ ghost use Rattle.std.specs.Prelude.{◌≡◌};
 ghost use Rattle.model.specs.Pitch.{pitch_of};
 ghost use Rattle.smaf_c.specs.Replies.{pitch_reply};
 
-use model::Pitch;
+use model::{Pitch, Refusal};
 
 // What C gets: semitones from the A of 440 Hz; or the refusal and its place.
 #[repr(C)]
@@ -14,20 +14,23 @@ pub struct PitchReply {
     pub semitones: i32,
 }
 
-fn pitch_reply(answer: Pitch) -> PitchReply
-    ensures { result ≡ pitch_reply answer }
-{
-    match answer {
-        Pitch::Semitones { above } => PitchReply {
-            refusal: 0,
-            place: 0,
-            semitones: above,
-        },
-        Pitch::Refused { number, place } => PitchReply {
-            refusal: number,
-            place,
-            semitones: 0,
-        },
+impl From<Result<Pitch, Refusal>> for PitchReply {
+    ghost from_gives = { λ answer reply. reply ≡ pitch_reply answer };
+
+    #[tactic(auto, unfolding(crate::specs::Replies::pitch_reply))]
+    fn from(answer: Result<Pitch, Refusal>) -> PitchReply {
+        match answer {
+            Ok(Pitch { above }) => PitchReply {
+                refusal: 0,
+                place: 0,
+                semitones: above,
+            },
+            Err(Refusal { number, place }) => PitchReply {
+                refusal: number,
+                place,
+                semitones: 0,
+            },
+        }
     }
 }
 
@@ -35,5 +38,5 @@ fn pitch_reply(answer: Pitch) -> PitchReply
 pub extern "C" fn smaf_pitch(byte: u8, shift: u8) -> PitchReply
     ensures { result ≡ pitch_reply (pitch_of byte shift) }
 {
-    pitch_reply(pitch::pitch_of(byte, shift))
+    pitch::pitch_of(byte, shift).into()
 }

@@ -4,7 +4,7 @@ ghost use Rattle.std.specs.Prelude.{◌≡◌, min, length};
 ghost use Rattle.model.specs.Answer.{play_of, play_answer, steps_table, words_table};
 ghost use Rattle.smaf_c.specs.Replies.{play_reply};
 
-use model::PlayAnswer;
+use model::{PlayAnswer, Refusal};
 
 // What C gets: so many rows, and the step at which the tune ends; or the refusal and its place.
 #[repr(C)]
@@ -16,22 +16,25 @@ pub struct PlayReply {
     pub end: u64,
 }
 
-fn play_reply(answer: PlayAnswer) -> PlayReply
-    ensures { result ≡ play_reply answer }
-{
-    match answer {
-        PlayAnswer::Rows { count, end } => PlayReply {
-            refusal: 0,
-            place: 0,
-            count,
-            end,
-        },
-        PlayAnswer::Refused { number, place } => PlayReply {
-            refusal: number,
-            place,
-            count: 0,
-            end: 0,
-        },
+impl From<Result<PlayAnswer, Refusal>> for PlayReply {
+    ghost from_gives = { λ answer reply. reply ≡ play_reply answer };
+
+    #[tactic(auto, unfolding(crate::specs::Replies::play_reply))]
+    fn from(answer: Result<PlayAnswer, Refusal>) -> PlayReply {
+        match answer {
+            Ok(PlayAnswer { count, end }) => PlayReply {
+                refusal: 0,
+                place: 0,
+                count,
+                end,
+            },
+            Err(Refusal { number, place }) => PlayReply {
+                refusal: number,
+                place,
+                count: 0,
+                end: 0,
+            },
+        }
     }
 }
 
@@ -47,5 +50,5 @@ pub extern "C" fn smaf_play(
     ensures steps_after { steps.new ≡ steps_table steps.old (play_of buffer.now n row (min (length steps.old) (length words.old))) }
     ensures words_after { words.new ≡ words_table words.old (play_of buffer.now n row (min (length steps.old) (length words.old))) }
 {
-    play_reply(playing::play(buffer, n, row, steps, words))
+    playing::play(buffer, n, row, steps, words).into()
 }

@@ -4,7 +4,7 @@ ghost use Rattle.std.specs.Prelude.{◌≡◌, length};
 ghost use Rattle.model.specs.Answer.{read_of, read_answer, read_table};
 ghost use Rattle.smaf_c.specs.Replies.{read_reply};
 
-use model::ReadAnswer;
+use model::{ReadAnswer, Refusal};
 
 // What C gets: so many rows, the computed check code and whether the file holds it; or the refusal and its place.
 #[repr(C)]
@@ -17,28 +17,27 @@ pub struct ReadReply {
     pub matches: bool,
 }
 
-fn read_reply(answer: ReadAnswer) -> ReadReply
-    ensures { result ≡ read_reply answer }
-{
-    match answer {
-        ReadAnswer::Rows {
-            count,
-            code,
-            matches,
-        } => ReadReply {
-            refusal: 0,
-            place: 0,
-            count,
-            code,
-            matches,
-        },
-        ReadAnswer::Refused { number, place } => ReadReply {
-            refusal: number,
-            place,
-            count: 0,
-            code: 0,
-            matches: false,
-        },
+impl From<Result<ReadAnswer, Refusal>> for ReadReply {
+    ghost from_gives = { λ answer reply. reply ≡ read_reply answer };
+
+    #[tactic(auto, unfolding(crate::specs::Replies::read_reply))]
+    fn from(answer: Result<ReadAnswer, Refusal>) -> ReadReply {
+        match answer {
+            Ok(read) => ReadReply {
+                refusal: 0,
+                place: 0,
+                count: read.count,
+                code: read.code,
+                matches: read.matches,
+            },
+            Err(Refusal { number, place }) => ReadReply {
+                refusal: number,
+                place,
+                count: 0,
+                code: 0,
+                matches: false,
+            },
+        }
     }
 }
 
@@ -47,5 +46,5 @@ pub extern "C" fn smaf_read(buffer: &[u8], n: usize, rows: &mut [u32]) -> ReadRe
     ensures value { result ≡ read_reply (read_answer (read_of buffer.now n (length rows.old))) }
     ensures rows_after { rows.new ≡ read_table rows.old (read_of buffer.now n (length rows.old)) }
 {
-    read_reply(reading::read(buffer, n, rows))
+    reading::read(buffer, n, rows).into()
 }

@@ -4,7 +4,7 @@ ghost use Rattle.std.specs.Prelude.{◌≡◌, length};
 ghost use Rattle.model.specs.Answer.{entries_of_track, entries_answer, entries_table, letters_table};
 ghost use Rattle.smaf_c.specs.Replies.{entries_reply};
 
-use model::EntriesAnswer;
+use model::{EntriesAnswer, Refusal};
 
 // What C gets: so many entries, and the letters of the order list among them; or the refusal and its place.
 #[repr(C)]
@@ -16,22 +16,25 @@ pub struct EntriesReply {
     pub letters: usize,
 }
 
-fn entries_reply(answer: EntriesAnswer) -> EntriesReply
-    ensures { result ≡ entries_reply answer }
-{
-    match answer {
-        EntriesAnswer::Rows { count, letters } => EntriesReply {
-            refusal: 0,
-            place: 0,
-            count,
-            letters,
-        },
-        EntriesAnswer::Refused { number, place } => EntriesReply {
-            refusal: number,
-            place,
-            count: 0,
-            letters: 0,
-        },
+impl From<Result<EntriesAnswer, Refusal>> for EntriesReply {
+    ghost from_gives = { λ answer reply. reply ≡ entries_reply answer };
+
+    #[tactic(auto, unfolding(crate::specs::Replies::entries_reply))]
+    fn from(answer: Result<EntriesAnswer, Refusal>) -> EntriesReply {
+        match answer {
+            Ok(EntriesAnswer { count, letters }) => EntriesReply {
+                refusal: 0,
+                place: 0,
+                count,
+                letters,
+            },
+            Err(Refusal { number, place }) => EntriesReply {
+                refusal: number,
+                place,
+                count: 0,
+                letters: 0,
+            },
+        }
     }
 }
 
@@ -47,5 +50,5 @@ pub extern "C" fn smaf_entries(
     ensures entries_after { entries.new ≡ entries_table entries.old (entries_of_track buffer.now n row (length entries.old) (length letters.old)) }
     ensures letters_after { letters.new ≡ letters_table letters.old (entries_of_track buffer.now n row (length entries.old) (length letters.old)) }
 {
-    entries_reply(giving::entries_of(buffer, n, row, entries, letters))
+    giving::entries_of(buffer, n, row, entries, letters).into()
 }

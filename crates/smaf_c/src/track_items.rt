@@ -4,7 +4,7 @@ ghost use Rattle.std.specs.Prelude.{◌≡◌, length};
 ghost use Rattle.model.specs.Answer.{items_of_track, items_answer, items_table};
 ghost use Rattle.smaf_c.specs.Replies.{items_reply};
 
-use model::Counted;
+use model::Refusal;
 
 // What C gets: so many items; or the refusal and its place.
 #[repr(C)]
@@ -15,20 +15,23 @@ pub struct ItemsReply {
     pub count: usize,
 }
 
-fn items_reply(answer: Counted) -> ItemsReply
-    ensures { result ≡ items_reply answer }
-{
-    match answer {
-        Counted::Rows { count } => ItemsReply {
-            refusal: 0,
-            place: 0,
-            count,
-        },
-        Counted::Refused { number, place } => ItemsReply {
-            refusal: number,
-            place,
-            count: 0,
-        },
+impl From<Result<usize, Refusal>> for ItemsReply {
+    ghost from_gives = { λ answer reply. reply ≡ items_reply answer };
+
+    #[tactic(auto, unfolding(crate::specs::Replies::items_reply))]
+    fn from(answer: Result<usize, Refusal>) -> ItemsReply {
+        match answer {
+            Ok(count) => ItemsReply {
+                refusal: 0,
+                place: 0,
+                count,
+            },
+            Err(Refusal { number, place }) => ItemsReply {
+                refusal: number,
+                place,
+                count: 0,
+            },
+        }
     }
 }
 
@@ -37,5 +40,5 @@ pub extern "C" fn smaf_items(buffer: &[u8], n: usize, row: usize, items: &mut [u
     ensures value { result ≡ items_reply (items_answer (items_of_track buffer.now n row (length items.old))) }
     ensures after { items.new ≡ items_table items.old (items_of_track buffer.now n row (length items.old)) }
 {
-    items_reply(giving::items_of(buffer, n, row, items))
+    giving::items_of(buffer, n, row, items).into()
 }

@@ -4,7 +4,7 @@ ghost use Rattle.std.specs.Prelude.{◌≡◌, length};
 ghost use Rattle.model.specs.Answer.{write_of, write_answer, write_room};
 ghost use Rattle.smaf_c.specs.Replies.{write_reply};
 
-use model::Wrote;
+use model::Refusal;
 
 // What C gets: so many bytes; or the refusal and its place.
 #[repr(C)]
@@ -15,20 +15,23 @@ pub struct WriteReply {
     pub length: usize,
 }
 
-fn write_reply(answer: Wrote) -> WriteReply
-    ensures { result ≡ write_reply answer }
-{
-    match answer {
-        Wrote::Bytes { length } => WriteReply {
-            refusal: 0,
-            place: 0,
-            length,
-        },
-        Wrote::Refused { number, place } => WriteReply {
-            refusal: number,
-            place,
-            length: 0,
-        },
+impl From<Result<usize, Refusal>> for WriteReply {
+    ghost from_gives = { λ answer reply. reply ≡ write_reply answer };
+
+    #[tactic(auto, unfolding(crate::specs::Replies::write_reply))]
+    fn from(answer: Result<usize, Refusal>) -> WriteReply {
+        match answer {
+            Ok(length) => WriteReply {
+                refusal: 0,
+                place: 0,
+                length,
+            },
+            Err(Refusal { number, place }) => WriteReply {
+                refusal: number,
+                place,
+                length: 0,
+            },
+        }
     }
 }
 
@@ -37,5 +40,5 @@ pub extern "C" fn smaf_write(numbers: &[u32], bytes: &[u8], room: &mut [u8]) -> 
     ensures value { result ≡ write_reply (write_answer (write_of numbers.now bytes.now (length room.old))) }
     ensures room_after { room.new ≡ write_room room.old (write_of numbers.now bytes.now (length room.old)) }
 {
-    write_reply(arranging::write_file(numbers, bytes, room))
+    arranging::write_file(numbers, bytes, room).into()
 }

@@ -1,75 +1,65 @@
-// Text on its way to standard output: it is gathered on a lent page, and the page is written out whenever it is full. Each function is
-// told how much of the page is used, and answers how much is then.
+// Text on its way to standard output: it is gathered on a page, and the page is written out whenever it is full.
 #![tactic(auto)]
 
-// Writes the page out.
-pub fn flush(page: &mut [u8], used: usize) -> usize {
-    if used <= page.len() {
-        io::write_all(1, &page[..used]);
-    }
-    0
+ghost use Rattle.std.specs.Prelude.{◌≡◌, ◌≤◌, length};
+
+use std::fmt;
+
+const LENGTH: usize = 65536;
+
+// A page has no end of its own, so that no text is lost: `finish` ends it.
+pub struct Page {
+    bytes: [u8; LENGTH],
+    used: usize,
+    ghost within: { used ≤ length bytes },
 }
 
-pub fn put_byte(page: &mut [u8], used: usize, byte: u8) -> usize {
-    if used < page.len() {
-        page[used] = byte;
-        return used + 1;
-    }
-    flush(page, used);
-    if page.len() == 0 {
-        return 0;
-    }
-    page[0] = byte;
-    1
-}
-
-pub fn put(page: &mut [u8], used: usize, text: &[u8]) -> usize {
-    let mut now = used;
-    let mut i = 0;
-    while i < text.len() {
-        now = put_byte(page, now, text[i]);
-        i += 1;
-    }
-    now
-}
-
-pub fn put_decimal(page: &mut [u8], used: usize, number: u64) -> usize {
-    let mut digits = [0u8; 20];
-    let count = io::decimal(number, &mut digits);
-    put(page, used, &digits[..count])
-}
-
-pub fn put_hex(page: &mut [u8], used: usize, number: u64, width: usize) -> usize {
-    let mut digits = [0u8; 16];
-    let count = io::hex(number, width, &mut digits);
-    put(page, used, &digits[..count])
-}
-
-// A pitch, from 80 semitones below the A of 440 Hz up to 63 above it; a question mark for what is none.
-pub fn put_pitch(page: &mut [u8], used: usize, above: i32) -> usize {
-    let mut k: u8 = 0;
-    while k < 144 {
-        if pitch::minus(k, 80) == above {
-            return put_above(page, used, k);
+impl Page {
+    pub fn new() -> Page {
+        Page {
+            bytes: [0; LENGTH],
+            used: 0,
         }
-        k += 1;
     }
-    put_byte(page, used, b'?')
+
+    // Writes out what is on the page.
+    fn flush(&mut self)
+        ensures { self.new.used ≡ 0 }
+    {
+        io::write_all(1, &self.bytes[..self.used]);
+        self.used = 0;
+    }
+
+    // Writes out what is left.
+    pub fn finish(self) {
+        let Page { bytes, used } = self;
+        io::write_all(1, &bytes[..used]);
+    }
+
+    pub fn put(&mut self, text: &[u8]) {
+        if LENGTH - self.used < text.len() {
+            self.flush();
+        }
+        self.put_next(text);
+    }
+
+    // Text that is longer than a page is written out at once.
+    fn put_next(&mut self, text: &[u8]) {
+        let used = self.used;
+        if LENGTH - used < text.len() {
+            io::write_all(1, text);
+            return;
+        }
+        let end = used + text.len();
+        self.bytes[used..end].copy_from_slice(text);
+        self.used = end;
+    }
 }
 
-// A number less 80, with its sign where it is below 0.
-fn put_above(page: &mut [u8], used: usize, k: u8) -> usize {
-    if k < 80 {
-        let now = put_byte(page, used, b'-');
-        return put_decimal(page, now, (80 - k) as u64);
+// A page takes any text, so no write to it fails.
+impl fmt::Write for Page {
+    fn write_str(&mut self, text: &str) -> fmt::Result {
+        self.put(text.as_bytes());
+        Ok(())
     }
-    put_decimal(page, used, (k - 80) as u64)
-}
-
-pub fn put_refusal(page: &mut [u8], used: usize, number: u32, place: usize) -> usize {
-    let used = put(page, used, b"refused ");
-    let used = put_decimal(page, used, number as u64);
-    let used = put_byte(page, used, b' ');
-    let used = put_decimal(page, used, place as u64);
-    put_byte(page, used, b'\n')
 }

@@ -5,19 +5,17 @@ use mathlib.Core.Bool.{Bool, true}
 use mathlib.Core.List.{List}
 use lib.ListN.{length}
 use native.Mathlib.Omega.{arith}
-use Rattle.model.specs.Words.{Placed, Checked, Checked.fine, Checked.refused, ◌>>=◌, ◌>>◌, counted_from}
+use Rattle.model.specs.Words.{Placed, Checked, ◌>>=◌, ◌>>◌, counted_from, refused}
+use Rattle.std.specs.Prelude.{Ok, Err, Option, Some, None}
 use Rattle.model.specs.Bytes.{part}
 use Rattle.model.specs.Item.{Item, is_fine, found, body_of, body_answer, check_answer}
 use Rattle.model.specs.Seek.{Entry, seek_of}
 use Rattle.model.specs.Track.{point_width, points_of, seek_in, entries_of}
 use Rattle.model.specs.declared.Voice.{Voice}
 use Rattle.model.specs.declared.Event.{Event}
-use Rattle.model.specs.declared.Check.{Check}
-use Rattle.model.specs.declared.Check.TheVariants as check
-use Rattle.model.specs.declared.ReadBody.{ReadBody}
-use Rattle.model.specs.declared.ReadBody.TheVariants as body
+use Rattle.model.specs.declared.WalkedBody.{WalkedBody}
+use Rattle.model.specs.declared.Refusal.{Refusal}
 use Rattle.model.specs.declared.FoundChunk.{FoundChunk}
-use Rattle.model.specs.declared.FoundChunk.TheVariants.{At, Nowhere}
 use Rattle.model.proofs.Parts.{part_within}
 use Rattle.tracks.specs.Stages.{bare_of, Inside, Near, moved}
 use Rattle.model.proofs.Answers.{answer_passed, bind_passed, bind_refused}
@@ -30,71 +28,68 @@ Items = List (Placed (Item Event))
 
 -- the walk of a sequence body
 
-whole_passes : (c : Checked Items) (count duration : ℕ) → body_answer c ≡ body.Whole count duration → check.Passed ≡ check_answer c
+whole_passes : (c : Checked Items) (walked : WalkedBody) → body_answer c ≡ Ok walked → Ok tt ≡ check_answer c
 unfolding body_answer check_answer
-whole_passes (fine items) count duration e = refl
-whole_passes (refused n p) count duration e = let z : ◌≡◌ {A = ℕ} 0 1 = cc in absurd (omega arith)
+whole_passes (Ok items) walked e = refl
+whole_passes (Err why) walked e = let z : ◌≡◌ {A = ℕ} 0 1 = cc in absurd (omega arith)
 
-refused_answers : (c : Checked Items) (number place : ℕ) → body_answer c ≡ body.Refused number place → check.Refused number place ≡ check_answer c
+refused_answers : (c : Checked Items) (why : Refusal) → body_answer c ≡ Err why → Err why ≡ check_answer c
 unfolding body_answer check_answer
-refused_answers (fine items) number place e = let z : ◌≡◌ {A = ℕ} 0 1 = cc in absurd (omega arith)
-refused_answers (refused n p) number place e = let m : n ≡ number = cc in let q : p ≡ place = cc in rw (m, q)
+refused_answers (Ok items) why e = let z : ◌≡◌ {A = ℕ} 0 1 = cc in absurd (omega arith)
+refused_answers (Err w) why e = let same : ◌≡◌ {A = Refusal} why w = cc in ap (λ (x : Refusal). Err x) same
 
-module _ (voice : Voice) (s : List ℕ) (r : ReadBody) (is : r ≡ body_answer (body_of voice s)) where
-  pub items_whole : (count duration : ℕ) → r ≡ body.Whole count duration → check.Passed ≡ check_answer (body_of voice s)
-  items_whole count duration e = whole_passes (body_of voice s) count duration (sym is ∙ e)
+module _ (voice : Voice) (s : List ℕ) (r : Checked WalkedBody) (is : r ≡ body_answer (body_of voice s)) where
+  pub items_whole : (walked : WalkedBody) → r ≡ Ok walked → Ok tt ≡ check_answer (body_of voice s)
+  items_whole walked e = whole_passes (body_of voice s) walked (sym is ∙ e)
 
-  pub items_refused : (number place : ℕ) → r ≡ body.Refused number place → check.Refused number place ≡ check_answer (body_of voice s)
-  items_refused number place e = refused_answers (body_of voice s) number place (sym is ∙ e)
+  pub items_refused : (why : Refusal) → r ≡ Err why → Err why ≡ check_answer (body_of voice s)
+  items_refused why e = refused_answers (body_of voice s) why (sym is ∙ e)
 
 -- a sequence chunk
 
 module _ (s : List ℕ) (place size : ℕ) (room : place + 8 + size ≤ length s) (small : length s ≤ 65536) where
-  pub sequence_low : place + 8 ≤ 65536
-  sequence_low = omega arith
-
-  pub sequence_small : (bytes : List ℕ) → bytes ≡ part s (place + 8) size → length bytes ≤ 65536
+  sequence_small : (bytes : List ℕ) → bytes ≡ part s (place + 8) size → length bytes ≤ 65536
   sequence_small bytes b = let short = part_within s (place + 8) size in omega (arith, ap length b)
 
-  pub sequence_near : (voice : Voice) (bytes : List ℕ) (r : Check) → bytes ≡ part s (place + 8) size → r ≡ check_answer (body_of voice bytes) → Near r
+  pub sequence_near : (voice : Voice) (bytes : List ℕ) (r : Checked (Unit {0})) → bytes ≡ part s (place + 8) size → r ≡ check_answer (body_of voice bytes) → Near r
   sequence_near voice bytes r b e =
       answer_near (body_of voice bytes) r (length bytes) e (let short = sequence_small bytes b in omega arith) (body_refused_within voice bytes)
 
-pub sequence_checked : (voice : Voice) (s : List ℕ) (place size : ℕ) (bytes : List ℕ) (r z : Check) → bytes ≡ part s (place + 8) size
+pub sequence_checked : (voice : Voice) (s : List ℕ) (place size : ℕ) (bytes : List ℕ) (r z : Checked (Unit {0})) → bytes ≡ part s (place + 8) size
     → r ≡ check_answer (body_of voice bytes) → z ≡ moved (place + 8) r
     → z ≡ check_answer (counted_from (place + 8) (body_of voice (part s (place + 8) size)))
 sequence_checked voice s place size bytes r z b e m =
     m ∙ ap (moved (place + 8)) (e ∙ ap (λ (bs : List ℕ). check_answer (body_of voice bs)) b) ∙ sym (answer_moved (place + 8) _)
 
-pub ruleset sequences = (sequence_low, sequence_small, sequence_near, sequence_checked, items_whole, items_refused)
+pub ruleset sequences = (sequence_near, sequence_checked)
 
 -- a seek body
 
-answer_kept : {A : Type 0} (c : Checked (Unit {0})) (a : A) → check_answer (c >> fine a) ≡ check_answer c
+answer_kept : {A : Type 0} (c : Checked (Unit {0})) (a : A) → check_answer (c >> Ok a) ≡ check_answer c
 unfolding check_answer ◌>>◌
-answer_kept (fine u) a = refl
-answer_kept (refused n p) a = refl
+answer_kept (Ok u) a = refl
+answer_kept (Err why) a = refl
 
-pub form_fine : (phrases : Bool) (s : List ℕ) (r : Check) → r ≡ check_answer (seek_of (point_width phrases) s) → r ≡ check.Passed
+pub form_fine : (phrases : Bool) (s : List ℕ) (r : Checked (Unit {0})) → r ≡ check_answer (seek_of (point_width phrases) s) → r ≡ Ok tt
     → is_fine (seek_of (point_width phrases) s) ≡ true
 form_fine phrases s r is e = answer_passed _ (sym is ∙ e)
 
-module _ (phrases : Bool) (items : List (Placed (Item Event))) (size : ℕ) (s : List ℕ) (r : Check) (is : r ≡ check_answer (seek_of (point_width phrases) s)) where
-  pub form_refused : (number place : ℕ) → r ≡ check.Refused number place → check.Refused number place ≡ check_answer (seek_in phrases items size s)
+module _ (phrases : Bool) (items : List (Placed (Item Event))) (size : ℕ) (s : List ℕ) (r : Checked (Unit {0})) (is : r ≡ check_answer (seek_of (point_width phrases) s)) where
+  pub form_refused : (why : Refusal) → r ≡ Err why → Err why ≡ check_answer (seek_in phrases items size s)
   unfolding seek_in
-  form_refused number place e = bind_refused (seek_of (point_width phrases) s) r (check.Refused number place) _ number place is e refl
+  form_refused why e = bind_refused (seek_of (point_width phrases) s) r (Err why) _ why is e refl
 
-  pub form_points : (z : Check) → r ≡ check.Passed → z ≡ check_answer (points_of phrases items size (found (seek_of (point_width phrases) s)))
+  pub form_points : (z : Checked (Unit {0})) → r ≡ Ok tt → z ≡ check_answer (points_of phrases items size (found (seek_of (point_width phrases) s)))
       → z ≡ check_answer (seek_in phrases items size s)
   unfolding seek_in
   form_points z e h = bind_passed (seek_of (point_width phrases) s) r z _ is e (h ∙ sym (answer_kept _ _))
 
 pub ruleset forms = (form_refused, form_fine, form_points)
 
-then_places : {A : Type 0} (c : Checked (Unit {0})) (a : A) (n place : ℕ) → (c >> fine a) ≡ refused n place → c ≡ refused n place
+then_places : {A : Type 0} (c : Checked (Unit {0})) (a : A) (n place : ℕ) → (c >> Ok a) ≡ refused n place → c ≡ refused n place
 unfolding ◌>>◌
-then_places (fine u) a n place e = let z : ◌≡◌ {A = ℕ} 0 1 = cc in absurd (omega arith)
-then_places (refused m there) a n place e = let p : m ≡ n = cc in let q : there ≡ place = cc in rw (p, q)
+then_places (Ok u) a n place e = let z : ◌≡◌ {A = ℕ} 0 1 = cc in absurd (omega arith)
+then_places (Err why) a n place e = cc
 
 seek_within : (phrases : Bool) (items : Items) (size : ℕ) (s : List ℕ) (n place : ℕ) → seek_in phrases items size s ≡ refused n place
     → place ≤ length s + length s + 3
@@ -102,36 +97,34 @@ unfolding seek_in ◌>>=◌ is_fine found
 seek_within phrases items size s n place e = go (seek_of (point_width phrases) s) refl e
   where
     go : (c : Checked (List (Placed Entry))) → seek_of (point_width phrases) s ≡ c
-        → (c >>= λ entries. points_of phrases items size entries >> fine entries) ≡ refused n place → place ≤ length s + length s + 3
-    go (fine entries) is q =
+        → (c >>= λ entries. points_of phrases items size entries >> Ok entries) ≡ refused n place → place ≤ length s + length s + 3
+    go (Ok entries) is q =
         points_refused_within phrases items size s n place (ap is_fine is)
         (ap (points_of phrases items size) (ap found is) ∙ then_places (points_of phrases items size entries) entries n place q)
-    go (refused m there) is q =
-        let same : there ≡ place = cc in
-        let r = form_refused_within (point_width phrases) s m there is in
+    go (Err why) is q =
+        let same : ◌≡◌ {A = Refusal} why (record { number = n; place = place }) = cc in
+        let there = ap (λ (w : Refusal). w.place) same in
+        let r = form_refused_within (point_width phrases) s why.number why.place is in
         omega arith
 
-module _ (s : List ℕ) (seek : FoundChunk) (place size : ℕ) (at : seek ≡ At place size) where
-  pub seek_near : (phrases : Bool) (items : List (Placed (Item Event))) (many : ℕ) (bytes : List ℕ) (r : Check) → Inside s seek → length s ≤ 65536
-      → bytes ≡ part s (place + 8) size → r ≡ check_answer (seek_in phrases items many bytes) → Near r
+module _ (s : List ℕ) (seek : Option FoundChunk) (chunk : FoundChunk) (at : seek ≡ Some chunk) where
+  pub seek_near : (phrases : Bool) (items : List (Placed (Item Event))) (many : ℕ) (bytes : List ℕ) (r : Checked (Unit {0})) → Inside s seek → length s ≤ 65536
+      → bytes ≡ part s (chunk.place + 8) chunk.size → r ≡ check_answer (seek_in phrases items many bytes) → Near r
   seek_near phrases items many bytes r inside small b e =
-      let short = sequence_small s place size (subst (Inside s) at inside) small bytes b in
+      let short = sequence_small s chunk.place chunk.size (subst (Inside s) at inside) small bytes b in
       answer_near (seek_in phrases items many bytes) r (length bytes + length bytes + 3) e (omega arith) (seek_within phrases items many bytes)
 
-  pub seek_small : (bytes : List ℕ) → Inside s seek → length s ≤ 65536 → bytes ≡ part s (place + 8) size → length bytes ≤ 65536
-  seek_small bytes inside small b = sequence_small s place size (subst (Inside s) at inside) small bytes b
-
-  pub seek_checked : (phrases : Bool) (items : List (Placed (Item Event))) (many : ℕ) (bytes : List ℕ) (r z : Check) → bytes ≡ part s (place + 8) size
-      → r ≡ check_answer (seek_in phrases items many bytes) → z ≡ moved (place + 8) r → z ≡ check_answer (entries_of phrases items many s (bare_of seek))
+  pub seek_checked : (phrases : Bool) (items : List (Placed (Item Event))) (many : ℕ) (bytes : List ℕ) (r z : Checked (Unit {0})) → bytes ≡ part s (chunk.place + 8) chunk.size
+      → r ≡ check_answer (seek_in phrases items many bytes) → z ≡ moved (chunk.place + 8) r → z ≡ check_answer (entries_of phrases items many s (bare_of seek))
   unfolding entries_of
   seek_checked phrases items many bytes r z b e m =
-      m ∙ ap (moved (place + 8)) (e ∙ ap (λ (bs : List ℕ). check_answer (seek_in phrases items many bs)) b)
-      ∙ sym (answer_moved (place + 8) (seek_in phrases items many (part s (place + 8) size)))
-      ∙ ap (λ (f : FoundChunk). check_answer (entries_of phrases items many s (bare_of f))) (sym at)
+      m ∙ ap (moved (chunk.place + 8)) (e ∙ ap (λ (bs : List ℕ). check_answer (seek_in phrases items many bs)) b)
+      ∙ sym (answer_moved (chunk.place + 8) (seek_in phrases items many (part s (chunk.place + 8) chunk.size)))
+      ∙ ap (λ (f : Option FoundChunk). check_answer (entries_of phrases items many s (bare_of f))) (sym at)
 
-pub seek_none : (phrases : Bool) (items : List (Placed (Item Event))) (many : ℕ) (s : List ℕ) (seek : FoundChunk) (z : Check) → seek ≡ Nowhere → z ≡ check.Passed
+pub seek_none : (phrases : Bool) (items : List (Placed (Item Event))) (many : ℕ) (s : List ℕ) (seek : Option FoundChunk) (z : Checked (Unit {0})) → seek ≡ None → z ≡ Ok tt
     → z ≡ check_answer (entries_of phrases items many s (bare_of seek))
 unfolding entries_of check_answer
-seek_none phrases items many s seek z p h = h ∙ ap (λ (f : FoundChunk). check_answer (entries_of phrases items many s (bare_of f))) (sym p)
+seek_none phrases items many s seek z p h = h ∙ ap (λ (f : Option FoundChunk). check_answer (entries_of phrases items many s (bare_of f))) (sym p)
 
-pub ruleset seeks = (seek_near, seek_small, seek_checked, seek_none)
+pub ruleset seeks = (seek_near, seek_checked, seek_none)

@@ -1,6 +1,6 @@
 // The sub-chunks of a track whose list passed its check, and their bodies.
 ghost use Rattle.std.specs.Prelude.{◌≡◌, true, ◌+◌, ◌≤◌, length};
-ghost use Rattle.model.specs.Bytes.{part};
+ghost use Rattle.model.specs.Bytes.{number, part};
 ghost use Rattle.model.specs.Item.{is_fine, found};
 ghost use Rattle.model.specs.Chunk.{found_chunk};
 ghost use Rattle.model.specs.Track.{part_id, part_named, has_waves};
@@ -18,52 +18,29 @@ pub fn body_of<'a>(s: &'a [u8], place: usize, size: usize) -> &'a [u8]
     &s[start..end]
 }
 
-fn find_seek(voice: Voice, s: &[u8], start: usize, end: usize) -> FoundChunk
-    requires start_le_end { (start ≤ end) × (end ≤ length s.now) × (end ≤ 65536) }
-    requires end_value { is_fine (chunks_in s.now start end) ≡ true }
-    ensures { result ≡ found_chunk (part_named (part_id Part.Seek voice) (found (chunks_in s.now start end))) }
+fn id_of(part: Part, voice: Voice) -> &'static [u8; 4]
+    ensures { number 4 result.now 0 ≡ part_id part voice }
 {
-    match voice {
-        Voice::Score => chunks::find_chunk(s, start, end, b"MspI"),
-        Voice::Pcm => chunks::find_chunk(s, start, end, b"AspI"),
-    }
-}
-
-fn find_setup(voice: Voice, s: &[u8], start: usize, end: usize) -> FoundChunk
-    requires start_le_end { (start ≤ end) × (end ≤ length s.now) × (end ≤ 65536) }
-    requires end_value { is_fine (chunks_in s.now start end) ≡ true }
-    ensures { result ≡ found_chunk (part_named (part_id Part.Setup voice) (found (chunks_in s.now start end))) }
-{
-    match voice {
-        Voice::Score => chunks::find_chunk(s, start, end, b"Mtsu"),
-        Voice::Pcm => chunks::find_chunk(s, start, end, b"Atsu"),
-    }
-}
-
-fn find_sequence(voice: Voice, s: &[u8], start: usize, end: usize) -> FoundChunk
-    requires start_le_end { (start ≤ end) × (end ≤ length s.now) × (end ≤ 65536) }
-    requires end_value { is_fine (chunks_in s.now start end) ≡ true }
-    ensures { result ≡ found_chunk (part_named (part_id Part.Sequence voice) (found (chunks_in s.now start end))) }
-{
-    match voice {
-        Voice::Score => chunks::find_chunk(s, start, end, b"Mtsq"),
-        Voice::Pcm => chunks::find_chunk(s, start, end, b"Atsq"),
+    match (part, voice) {
+        (Part::Seek, Voice::Score) => b"MspI",
+        (Part::Seek, Voice::Pcm) => b"AspI",
+        (Part::Setup, Voice::Score) => b"Mtsu",
+        (Part::Setup, Voice::Pcm) => b"Atsu",
+        (Part::Sequence, Voice::Score) => b"Mtsq",
+        (Part::Sequence, Voice::Pcm) => b"Atsq",
     }
 }
 
 // The sub-chunk of a kind.
-pub fn find_part(part: Part, voice: Voice, s: &[u8], start: usize, end: usize) -> FoundChunk
+pub fn find_part(part: Part, voice: Voice, s: &[u8], start: usize, end: usize) -> Option<FoundChunk>
     requires start_le_end { (start ≤ end) × (end ≤ length s.now) × (end ≤ 65536) }
     requires end_value { is_fine (chunks_in s.now start end) ≡ true }
     ensures { result ≡ found_chunk (part_named (part_id part voice) (found (chunks_in s.now start end))) }
 {
-    match part {
-        Part::Seek => find_seek(voice, s, start, end),
-        Part::Setup => find_setup(voice, s, start, end),
-        Part::Sequence => find_sequence(voice, s, start, end),
-    }
+    chunks::find_chunk(s, start, end, id_of(part, voice))
 }
 
+#[tactic(auto, using(crate::proofs::Parts::voices))]
 pub fn has_waves(voice: Voice, s: &[u8], start: usize, end: usize) -> bool
     requires start_le_end { (start ≤ end) × (end ≤ length s.now) × (end ≤ 65536) }
     requires end_value { is_fine (chunks_in s.now start end) ≡ true }

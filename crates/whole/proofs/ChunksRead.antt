@@ -6,7 +6,8 @@ use mathlib.Core.Path.{◌≡◌, refl, sym, ◌∙◌, ap, subst}
 use lib.ListN.{length, drop, length-append}
 use native.Mathlib.Omega.{arith}
 use borrow.Author.Tests.{le-ltb}
-use Rattle.model.specs.Words.{when◌then◌else◌, ◌or◌, ◌≡?◌, any, Checked.fine, passed, ◌>>◌, Step.met}
+use Rattle.model.specs.Words.{when◌then◌else◌, ◌or◌, ◌≡?◌, any, passed, ◌>>◌, Step.met}
+use Rattle.std.specs.Prelude.{Ok}
 use Rattle.model.specs.Words.{Walk, Walk.over, Walk.broken, Walk.◌then◌, walk_to, walk_of, in_turn, unasked}
 use Rattle.model.specs.Bytes.{number}
 use Rattle.model.specs.Chunk.{Chunk, body_bytes, read_chunk, chunk_met, chunk_step, allowed_once, chunk_list}
@@ -101,7 +102,7 @@ module _ (s : List ℕ) where
       (body_held s at one.id one.body _ here, row_held more (at + 8 + length one.body) rest (chunk_behind s at one.id one.body _ here))
 
 -- what a walk meets of which nothing is asked is all of it
-unasked_all : {A : Type 0} (walk : Walk A) (before all : List A) → in_turn unasked before walk ≡ fine all → walk ≡ walk_of all
+unasked_all : {A : Type 0} (walk : Walk A) (before all : List A) → in_turn unasked before walk ≡ Ok all → walk ≡ walk_of all
 unfolding in_turn walk_of ◌>>◌
 unasked_all {A} over before all e = let none : [] ≡ all = cc in subst (λ (l : List A). over ≡ walk_of l) none refl
 unasked_all (broken number place) before all e = let z : ◌≡◌ {A = ℕ} 0 1 = cc in absurd (omega arith)
@@ -137,7 +138,7 @@ row_pass allowed (one ∷ more) at before ok =
     (first, row_pass allowed more (at + 8 + length one.body) (chunk_from at one ∷ before) ok.2)
 
 pub chunks_read : (allowed : ℕ → Bool) (s : List ℕ) (row : List Bodied) (start end : ℕ) (rest : List ℕ) → RowFits row → RowAllowed allowed [] row
-    → drop start s ≡ row_bytes row ++ rest → start + length (row_bytes row) ≡ end → chunk_list allowed s start end ≡ fine (chunks_from start row)
+    → drop start s ≡ row_bytes row ++ rest → start + length (row_bytes row) ≡ end → chunk_list allowed s start end ≡ Ok (chunks_from start row)
 unfolding chunk_list
 chunks_read allowed s row start end rest fits ok e ends =
     (stand_iff 4 end (chunk_step s end) (allowed_once allowed) (λ at g. chunk_goes s end at g) start (chunks_from start row) (omega arith)).1

@@ -7,12 +7,12 @@ use lib.ListN.{length, take, drop}
 use lib.Seq.{take-add, drop-drop}
 use native.Mathlib.Omega.{arith}
 use borrow.Author.Tests.{ltb-false}
-use Rattle.model.specs.Words.{Checked.fine, Step.met}
+use Rattle.model.specs.Words.{Step.met}
+use Rattle.std.specs.Prelude.{Ok, Option, Some, None}
 use Rattle.model.specs.Bytes.{◌!◌, number, part}
 use Rattle.model.specs.Chunk.{Chunk, chunk_at, place_after, body_bytes, read_chunk, chunk_met, chunk_step, allowed_once, chunk_list}
 use Rattle.model.specs.ChunkBytes.{number_bytes, chunk_bytes}
 use Rattle.model.specs.declared.ReadChunk.{ReadChunk}
-use Rattle.model.specs.declared.ReadChunk.TheVariants.{Is, Cut}
 use Rattle.model.proofs.Parts.{part_length}
 use Rattle.model.proofs.Tests.{if_all}
 use Rattle.model.proofs.Walks.{Stand, stand_iff}
@@ -21,9 +21,9 @@ use Rattle.entries.proofs.NumberBytes.{number_again}
 use Rattle.whole.proofs.ChunkRow.{row_bytes, row_of}
 
 -- THE CHUNK THAT IS MET at a place is the one whose header stands there, and it ends within the list.
-abbrev Here : List ℕ → ℕ → ℕ → ReadChunk → Type 0
-Here s end at (Is id size next) = (id ≡ number 4 s at) × (size ≡ number 4 s (at + 4)) × (next ≡ at + 8 + size) × (next ≤ end)
-Here s end at Cut = Unit
+abbrev Here : List ℕ → ℕ → ℕ → Option ReadChunk → Type 0
+Here s end at (Some read) = (read.id ≡ number 4 s at) × (read.size ≡ number 4 s (at + 4)) × (read.next ≡ at + 8 + read.size) × (read.next ≤ end)
+Here s end at None = Unit
 
 read_here : (s : List ℕ) (end at : ℕ) → at ≤ end → Here s end at (read_chunk s end at)
 unfolding read_chunk
@@ -32,18 +32,18 @@ read_here s end at h =
     (λ i. if_all (Here s end at) _ _ _ (λ j. tt)
     (λ j. (refl, refl, refl, omega (arith, ltb-false (end - at) 8 i, ltb-false (end - at - 8) (number 4 s (at + 4)) j))))
 
-here_is : (s : List ℕ) (end at : ℕ) (r : ReadChunk) (chunk : Chunk) (next : ℕ) → Here s end at r → chunk_met at r ≡ met chunk next
+here_is : (s : List ℕ) (end at : ℕ) (r : Option ReadChunk) (chunk : Chunk) (next : ℕ) → Here s end at r → chunk_met at r ≡ met chunk next
     → (chunk ≡ chunk_at s at) × (chunk.place ≡ at) × (next ≡ place_after chunk) × (next ≤ end)
 unfolding chunk_met chunk_at
-here_is s end at (Is id size n) chunk next h e =
-    let one : Chunk = record { id = id; place = at; size = size } in
+here_is s end at (Some read) chunk next h e =
+    let one : Chunk = record { id = read.id; place = at; size = read.size } in
     let same : one ≡ chunk = cc in
-    let on : n ≡ next = cc in
-    let size_is : size ≡ chunk.size = ap (λ (c : Chunk). c.size) same in
+    let on : read.next ≡ next = cc in
+    let size_is : read.size ≡ chunk.size = ap (λ (c : Chunk). c.size) same in
     let place_is : at ≡ chunk.place = ap (λ (c : Chunk). c.place) same in
     let header : one ≡ record { id = number 4 s at; place = at; size = number 4 s (at + 4) } = rw (h.0, h.1) in
     (sym same ∙ header, sym place_is, omega arith, omega arith)
-here_is s end at Cut chunk next h e = let z : ◌≡◌ {A = ℕ} 0 1 = cc in absurd (omega arith)
+here_is s end at None chunk next h e = let z : ◌≡◌ {A = ℕ} 0 1 = cc in absurd (omega arith)
 
 pub met_here : (s : List ℕ) (end at : ℕ) (chunk : Chunk) (next : ℕ) → at ≤ end → chunk_step s end at ≡ met chunk next
     → (chunk ≡ chunk_at s at) × (chunk.place ≡ at) × (next ≡ place_after chunk) × (next ≤ end)
@@ -91,7 +91,7 @@ module _ (s : List ℕ) (bytes : (k : ℕ) → s ! k < 256) where
 
 -- THE CHUNKS OF A LIST, written, are the list
 pub chunks_write : (allowed : ℕ → Bool) (s : List ℕ) (start end : ℕ) (chunks : List Chunk) → ((k : ℕ) → s ! k < 256) → start ≤ end → end ≤ length s
-    → chunk_list allowed s start end ≡ fine chunks → row_bytes (row_of s chunks) ≡ part s start (end - start)
+    → chunk_list allowed s start end ≡ Ok chunks → row_bytes (row_of s chunks) ≡ part s start (end - start)
 unfolding chunk_list
 chunks_write allowed s start end chunks bytes h within e =
     stand_writes s bytes chunks start end h within

@@ -5,7 +5,8 @@ use mathlib.Core.List.{List, [], ◌∷◌}
 use mathlib.Core.Path.{◌≡◌, sym, ◌∙◌, ap}
 use lib.ListN.{length, length-append}
 use native.Mathlib.Omega.{arith}
-use Rattle.model.specs.Words.{◌otherwise◌, ◌or_else◌, first_said, Placed, Checked.fine}
+use Rattle.model.specs.Words.{◌otherwise◌, ◌or_else◌, first_said, Placed}
+use Rattle.std.specs.Prelude.{Ok}
 use Rattle.model.specs.Seek.{Entry, Entry.start, Entry.stop, Entry.phrase, Entry.order, is_letter, letters_in_front, order_in, order_list, entry_step, seek_of}
 use Rattle.model.specs.Track.{point_width}
 use Rattle.model.specs.SeekBytes.{data_bytes, entry_bytes, further_bytes, seek_bytes, entry_numbers, entries_numbers}
@@ -101,7 +102,7 @@ module _ (phrases : Bool) (letters : List ℕ) (few : length letters < 429496729
       both_below 4294967296 (entry_numbers entry.what) (entries_numbers entries) (entry_below entry.what fit.0 are.0)
       (numbers_below entries fit.1 are.1)
 
-module _ (phrases : Bool) (s : List ℕ) (bytes : AllBelow 256 s) (entries : List (Placed Entry)) (reads : seek_of (point_width phrases) s ≡ fine entries) where
+module _ (phrases : Bool) (s : List ℕ) (bytes : AllBelow 256 s) (entries : List (Placed Entry)) (reads : seek_of (point_width phrases) s ≡ Ok entries) where
   pub order_letters_below : AllBelow 256 (letters_of entries)
   order_letters_below = said_below (point_width phrases) entries (seek_fits (point_width phrases) s bytes entries reads)
 

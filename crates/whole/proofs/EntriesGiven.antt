@@ -8,7 +8,8 @@ use lib.ListN.{length, drop, length-map}
 use lib.Seq.{get_or-drop}
 use native.Mathlib.Omega.{arith}
 use borrow.Author.Tests.{leb-true, eqb-true}
-use Rattle.model.specs.Words.{◌≤?◌, Placed, Checked, Checked.fine, Checked.refused, walk_of, in_turn}
+use Rattle.model.specs.Words.{◌≤?◌, Placed, Checked, walk_of, in_turn}
+use Rattle.std.specs.Prelude.{Ok, Err}
 use Rattle.model.specs.Bytes.{◌!◌}
 use Rattle.model.specs.Seek.{Entry, letters_in_front, in_order, seek_of}
 use Rattle.model.specs.Track.{point_width}
@@ -22,8 +23,8 @@ use Rattle.whole.proofs.EntriesFit.{EntryFits, EntriesFit}
 use Rattle.whole.proofs.SeekReads.{seek_reads}
 
 abbrev AnswerFits : ℕ → Checked Entry → Type 0
-AnswerFits width (fine entry) = EntryFits width entry
-AnswerFits width (refused number place) = Unit
+AnswerFits width (Ok entry) = EntryFits width entry
+AnswerFits width (Err why) = Unit
 
 point_small : (phrases : Bool) (value : ℕ) → (value ≤? largest_point phrases) ≡ true → value < 256 ^ point_width phrases
 point_small true value h = omega (arith, leb-true value 0xFF h)
@@ -39,7 +40,7 @@ module _ (phrases : Bool) (letters : List ℕ) where
       (λ k. if_all Fits _ _ _ (λ k. if_all Fits _ _ _ (λ h. (h, small, few)) (λ h. tt))
       (λ k. if_all Fits _ _ _ (λ k. if_all Fits _ _ _ (λ h. eqb-true (letters_in_front letters) (length letters) h) (λ h. tt)) (λ k. tt))))
 
-  from_fits : (count : ℕ) (numbers : List ℕ) → ((k : ℕ) → numbers ! k < 256 ^ 4) → (entries : List Entry) → entries_from phrases letters count numbers ≡ fine entries
+  from_fits : (count : ℕ) (numbers : List ℕ) → ((k : ℕ) → numbers ! k < 256 ^ 4) → (entries : List Entry) → entries_from phrases letters count numbers ≡ Ok entries
       → EntriesFit (point_width phrases) entries
   unfolding entries_from
   from_fits zero numbers small entries e = let none : [] ≡ entries = cc in subst (EntriesFit (point_width phrases)) none tt
@@ -52,12 +53,12 @@ module _ (phrases : Bool) (letters : List ℕ) where
       subst (EntriesFit (point_width phrases)) same (first, rest)
 
   module _ (numbers : List ℕ) (small : (k : ℕ) → numbers ! k < 256 ^ 4) (placed : List (Placed Entry))
-      (given : entries_given phrases letters numbers ≡ fine placed) where
+      (given : entries_given phrases letters numbers ≡ Ok placed) where
     -- the entries, and that each stands at its place
     record Taken : Type 0 where
       entries : List Entry
       fit : EntriesFit (point_width phrases) entries
-      turn : in_turn in_order [] (walk_of (entries_placed (point_width phrases) entries)) ≡ fine placed
+      turn : in_turn in_order [] (walk_of (entries_placed (point_width phrases) entries)) ≡ Ok placed
       are : entries_in placed ≡ entries
 
     taken : Taken
@@ -75,13 +76,13 @@ module _ (phrases : Bool) (letters : List ℕ) where
     pub given_fits : EntriesFit (point_width phrases) (entries_in placed)
     given_fits = let t = taken in subst (EntriesFit (point_width phrases)) (sym t.are) t.fit
 
-    pub given_in_turn : in_turn in_order [] (walk_of (entries_placed (point_width phrases) (entries_in placed))) ≡ fine placed
+    pub given_in_turn : in_turn in_order [] (walk_of (entries_placed (point_width phrases) (entries_in placed))) ≡ Ok placed
     given_in_turn = let t = taken in rw t.are t.turn
 
     pub given_places : entries_placed (point_width phrases) (entries_in placed) ≡ placed
     given_places = sym (in_turn_all in_order (entries_placed (point_width phrases) (entries_in placed)) [] placed given_in_turn).0
 
-    pub given_reads : 0 < length placed → seek_of (point_width phrases) (seek_bytes (point_width phrases) (entries_in placed)) ≡ fine placed
+    pub given_reads : 0 < length placed → seek_of (point_width phrases) (seek_bytes (point_width phrases) (entries_in placed)) ≡ Ok placed
     given_reads some =
         let long : 0 < length (entries_in placed) = omega (arith, length-map placed (λ entry. entry.what)) in
         (seek_reads (point_width phrases) (entries_in placed) placed long given_fits given_in_turn).0

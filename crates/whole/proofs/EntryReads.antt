@@ -9,7 +9,7 @@ use native.Mathlib.Omega.{arith}
 use borrow.Author.Tests.{le-ltb}
 use Rattle.model.specs.Words.{when◌then◌else◌}
 use Rattle.model.specs.Bytes.{◌!◌, number, part}
-use Rattle.model.specs.Seek.{Entry, Entry.start, Entry.stop, Entry.phrase, Entry.order, is_letter, tag, letters_in_front, data_at, phrase_at, entry_at, followed, entry_met, entry_step}
+use Rattle.model.specs.Seek.{Entry, Entry.start, Entry.stop, Entry.phrase, Entry.order, is_letter, tag, letters_in_front, data_at, phrase_at, entry_at, followed, entry_of, entry_met, entry_step}
 use Rattle.model.specs.ChunkBytes.{number_bytes}
 use Rattle.model.specs.SeekBytes.{data_bytes, entry_bytes}
 use Rattle.model.proofs.Tests.{by_test, if_true, if_false}
@@ -66,7 +66,7 @@ module _ (width : ℕ) (s : List ℕ) (at : ℕ) (rest : List ℕ) where
 
   pub entry_reads : (entry : Entry) → EntryFits width entry → letters_in_front rest ≡ 0 → drop at s ≡ entry_bytes width entry ++ rest
       → entry_step width s at ≡ followed s at (at + length (entry_bytes width entry)) entry
-  unfolding entry_step entry_met data_at phrase_at data_bytes tag when◌then◌else◌
+  unfolding entry_step entry_met entry_of data_at phrase_at data_bytes tag when◌then◌else◌
   entry_reads (start value) fits none-follows e =
       let p = point_there (start value) value refl fits e in
       rw (other_there (start value) e (omega arith) (λ q. omega arith), p.2) (simp (le-ltb (length s) (at + 3 + width) p.0, p.1))

@@ -11,11 +11,12 @@ use native.Mathlib.Omega.{arith}
 use borrow.Author.Tests.{ltb-false, leb-true, leb-false, eqb-true, not-false}
 use Rattle.model.specs.Words.{when◌then◌else◌, ◌<?◌, Placed, Step, Step.met, Step.stuck}
 use Rattle.model.specs.Bytes.{◌!◌, number, part}
-use Rattle.model.specs.Seek.{Entry, Entry.start, Entry.stop, Entry.phrase, Entry.order, is_letter, tag, letters_in_front, data_at, phrase_at, entry_at, followed, entry_met, entry_step}
+use Rattle.model.specs.Seek.{Entry, Entry.start, Entry.stop, Entry.phrase, Entry.order, is_letter, tag, letters_in_front, data_at, phrase_at, entry_at, entry_of, followed, entry_met, entry_step}
 use Rattle.model.specs.ChunkBytes.{number_bytes}
 use Rattle.model.specs.SeekBytes.{data_bytes, entry_bytes}
-use Rattle.model.specs.declared.ReadEntry.{ReadEntry}
-use Rattle.model.specs.declared.ReadEntry.TheVariants.{Start, Stop, Phrase, Order, Refused}
+use Rattle.std.specs.Prelude.{Option, Some, None}
+use Rattle.model.specs.declared.Read.{Read}
+use Rattle.model.specs.declared.SeekEntry.{SeekEntry}
 use Rattle.model.proofs.Tests.{if_all, by_test, and_left, and_right}
 use Rattle.model.proofs.Parts.{part_length}
 use Rattle.seek.proofs.Letters.{letters_reach}
@@ -61,12 +62,9 @@ module _ (width : ℕ) (s : List ℕ) (bytes : (k : ℕ) → s ! k < 256) (at : 
         within = room;
       }
 
-  abbrev Written : ReadEntry → Type 0
-  Written (Start value next) = EntryThere width s at (start value) next
-  Written (Stop value next) = EntryThere width s at (stop value) next
-  Written (Phrase letter from to next) = EntryThere width s at (phrase letter from to) next
-  Written (Order letters next) = EntryThere width s at (order (part s (at + 3) letters)) next
-  Written Refused = Unit
+  abbrev Written : Option (Read SeekEntry) → Type 0
+  Written (Some read) = EntryThere width s at (entry_of s at read.what) read.next
+  Written None = Unit
 
   module _ (room : at + 3 ≤ length s) (colon : s ! (at + 2) ≡ 0x3A) where
     point_written : (entry : Entry) → number 2 s at ≡ tag entry → EntryFits width entry → data_bytes width entry ≡ number_bytes width (number width s (at + 3))
@@ -76,7 +74,7 @@ module _ (width : ℕ) (s : List ℕ) (bytes : (k : ℕ) → s ! k < 256) (at : 
         entry_stands entry width colon tagged fit enough (same ∙ number_again s bytes (at + 3) width enough)
 
     data_written : (tagged : ℕ) → number 2 s at ≡ tagged → Written (data_at width s tagged (at + 3))
-    unfolding data_at data_bytes tag
+    unfolding data_at data_bytes tag entry_of
     data_written tagged is =
         if_all Written _ _ _
         (λ t. if_all Written _ _ _ (λ h. tt) (λ h.
@@ -92,7 +90,7 @@ module _ (width : ℕ) (s : List ℕ) (bytes : (k : ℕ) → s ! k < 256) (at : 
         (λ no_order. tt)))
 
     phrase_written : s ! at ≡ 0x50 → is_letter (s ! (at + 1)) ≡ true → Written (phrase_at s (s ! (at + 1)) (at + 3))
-    unfolding phrase_at data_bytes tag
+    unfolding phrase_at data_bytes tag entry_of
     phrase_written first known =
         if_all Written _ _ _ (λ h. tt) (λ h.
         let enough : at + 3 + 8 ≤ length s = ltb-false (length s) (at + 3 + 8) h in
@@ -148,13 +146,10 @@ module _ (width : ℕ) (s : List ℕ) (at : ℕ) where
       record { place = refl; end = end; there = t; behind = comma_stands stands refl })
       (λ other. tt))
 
-  met_there : (bytes : (k : ℕ) → s ! k < 256) (entry : ReadEntry) → Written width s bytes at entry → StepThere (entry_met s at entry)
+  met_there : (bytes : (k : ℕ) → s ! k < 256) (entry : Option (Read SeekEntry)) → Written width s bytes at entry → StepThere (entry_met s at entry)
   unfolding entry_met
-  met_there bytes (Start value next) w = followed_there (start value) next w
-  met_there bytes (Stop value next) w = followed_there (stop value) next w
-  met_there bytes (Phrase letter from to next) w = followed_there (phrase letter from to) next w
-  met_there bytes (Order letters next) w = followed_there (order (part s (at + 3) letters)) next w
-  met_there bytes Refused w = tt
+  met_there bytes (Some read) w = followed_there (entry_of s at read.what) read.next w
+  met_there bytes None w = tt
 
   pub entry_writes : ((k : ℕ) → s ! k < 256) → (entry : Placed Entry) (next : ℕ) → entry_step width s at ≡ met entry next → MetThere width s at entry next
   unfolding entry_step

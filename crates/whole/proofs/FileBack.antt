@@ -7,7 +7,8 @@ use mathlib.Core.Path.{◌≡◌, refl, ◌∙◌, ap, subst}
 use lib.ListN.{length, take, length-take}
 use native.Mathlib.Omega.{arith}
 use borrow.Author.Tests.{le-ltb, ltb-false}
-use Rattle.model.specs.Words.{when◌then◌else◌, ◌or◌, Checked.fine, ◌>>◌}
+use Rattle.model.specs.Words.{when◌then◌else◌, ◌or◌, ◌>>◌}
+use Rattle.std.specs.Prelude.{Ok}
 use Rattle.model.specs.File.{File, contents_of, file_of}
 use Rattle.model.specs.Arrangement.{Arrangement, file_bytes}
 use Rattle.model.specs.Tables.{arrangement_of}
@@ -19,16 +20,16 @@ use Rattle.whole.proofs.Bounded.{AllBelow}
 use Rattle.whole.proofs.FileReads.{ReadsBack, written_reads}
 
 -- the front of a buffer that is a file
-file_in_lem : (buffer : List ℕ) (n : ℕ) (s : List ℕ) (file : File) → take n buffer ≡ s → n ≡ length s → n ≤ 65536 → contents_of s ≡ fine file
-    → file_of buffer n ≡ fine file
+file_in_lem : (buffer : List ℕ) (n : ℕ) (s : List ℕ) (file : File) → take n buffer ≡ s → n ≡ length s → n ≤ 65536 → contents_of s ≡ Ok file
+    → file_of buffer n ≡ Ok file
 unfolding file_of when◌then◌else◌ ◌or◌ ◌>>◌
 file_in_lem buffer n s file is long few reads =
     let there : n ≤ length buffer = omega (arith, length-take n buffer, ap length is) in
     rw (le-ltb (length buffer) n there, le-ltb 65536 n few, is) reads
 
 -- what was written, of which arrangement
-wrote_what : (numbers bytes : List ℕ) (room : ℕ) (written : List ℕ) → write_of numbers bytes room ≡ fine written
-    → (arrangement : Arrangement) × (arrangement_of numbers bytes ≡ fine arrangement) × (file_bytes arrangement ≡ written) × (length written ≤ 65536)
+wrote_what : (numbers bytes : List ℕ) (room : ℕ) (written : List ℕ) → write_of numbers bytes room ≡ Ok written
+    → (arrangement : Arrangement) × (arrangement_of numbers bytes ≡ Ok arrangement) × (file_bytes arrangement ≡ written) × (length written ≤ 65536)
 unfolding write_of within_room
 wrote_what numbers bytes room written e =
     let a = bind_fine _ _ written e in
@@ -38,12 +39,12 @@ wrote_what numbers bytes room written e =
     (a.0, a.1, same, omega (arith, ap length same))
 
 module _ (numbers bytes room written : List ℕ) (small : AllBelow 4294967296 numbers) (below : AllBelow 256 bytes)
-    (wrote : write_of numbers bytes (length room) ≡ fine written) where
+    (wrote : write_of numbers bytes (length room) ≡ Ok written) where
   abbrev after : List ℕ
   after = write_room room (write_of numbers bytes (length room))
 
-  pub file_reads_back : (arrangement : Arrangement) × (arrangement_of numbers bytes ≡ fine arrangement)
-      × (file : File) × (file_of after (length written) ≡ fine file) × (file.matches ≡ true)
+  pub file_reads_back : (arrangement : Arrangement) × (arrangement_of numbers bytes ≡ Ok arrangement)
+      × (file : File) × (file_of after (length written) ≡ Ok file) × (file.matches ≡ true)
       × (held_in (take (length written) after) file ≡ arrangement) × (is_laid file ≡ true)
   file_reads_back =
       let w = wrote_what numbers bytes (length room) written wrote in

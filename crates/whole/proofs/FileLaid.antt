@@ -6,7 +6,8 @@ use mathlib.Core.Path.{◌≡◌, refl, sym, ◌∙◌, ap, ap₂}
 use lib.ListN.{length}
 use native.Mathlib.Omega.{arith}
 use borrow.Author.Tests.{eqb-true}
-use Rattle.model.specs.Words.{◌≡?◌, Checked.fine, each}
+use Rattle.model.specs.Words.{◌≡?◌, each}
+use Rattle.std.specs.Prelude.{Ok}
 use Rattle.model.specs.Bytes.{CNTI, MTR}
 use Rattle.model.specs.Chunk.{Chunk, chunk_step}
 use Rattle.model.specs.File.{Top, Top.leaf, Top.readable, File, chunk_of, frame_of, top_of, contents_of}
@@ -28,29 +29,29 @@ pub record FileLaid (s : List ℕ) (file : File) : Type 0 where
   pub contents : Chunk
   pub tracks : List Top
   pub tops : file.tops ≡ leaf contents ∷ tracks
-  pub framed : frame_of s ≡ fine (contents ∷ map chunk_of tracks)
+  pub framed : frame_of s ≡ Ok (contents ∷ map chunk_of tracks)
   pub named : contents.id ≡ CNTI
   pub five : contents.size ≡ 5
   pub first : contents.place ≡ 8
   pub laid : TracksLaid s tracks
   pub within : 21 ≤ length s
 
-top_chunk : (s : List ℕ) (chunk : Chunk) (top : Top) → top_of s chunk ≡ fine top → chunk_of top ≡ chunk
+top_chunk : (s : List ℕ) (chunk : Chunk) (top : Top) → top_of s chunk ≡ Ok top → chunk_of top ≡ chunk
 unfolding chunk_of
 top_chunk s chunk (leaf one) e = (opened_as s chunk (leaf one) e).0
 top_chunk s chunk (readable one track) e = (opened_as s chunk (readable one track) e).0
 
 -- each chunk by what it was opened as
-opened_each : (s : List ℕ) (chunk : Chunk) (chunks : List Chunk) (top : Top) (tops : List Top) → each (top_of s) (chunk ∷ chunks) ≡ fine (top ∷ tops)
-    → (top_of s chunk ≡ fine top) × (each (top_of s) chunks ≡ fine tops)
+opened_each : (s : List ℕ) (chunk : Chunk) (chunks : List Chunk) (top : Top) (tops : List Top) → each (top_of s) (chunk ∷ chunks) ≡ Ok (top ∷ tops)
+    → (top_of s chunk ≡ Ok top) × (each (top_of s) chunks ≡ Ok tops)
 opened_each s chunk chunks top tops e =
     let f = each_fine (top_of s) chunk chunks (top ∷ tops) e in
     let first : f.0 ≡ top = let q = f.4 in cc in
     let rest : f.1 ≡ tops = let q = f.4 in cc in
-    (f.2 ∙ ap fine first, f.3 ∙ ap fine rest)
+    (f.2 ∙ ap Ok first, f.3 ∙ ap Ok rest)
 
 module _ (s : List ℕ) (bytes : AllBelow 256 s) (end : ℕ) (inside : end ≤ length s) where
-  tracks_apart : (chunks : List Chunk) (tops : List Top) (at : ℕ) → at ≤ end → Stand end (chunk_step s end) at chunks → each (top_of s) chunks ≡ fine tops
+  tracks_apart : (chunks : List Chunk) (tops : List Top) (at : ℕ) → at ≤ end → Stand end (chunk_step s end) at chunks → each (top_of s) chunks ≡ Ok tops
       → tracks_laid tops ≡ true → (chunks ≡ map chunk_of tops) × TracksLaid s tops
   unfolding tracks_laid chunk_of
   tracks_apart [] [] at h st e ok = (refl, tt)
@@ -65,16 +66,16 @@ module _ (s : List ℕ) (bytes : AllBelow 256 s) (end : ℕ) (inside : end ≤ l
       let score = eqb-true (one.id / 256) MTR (and_left (one.id / 256 ≡? MTR) _ ok) in
       let others = and_right (one.id / 256 ≡? MTR) _ ok in
       let parts = and_left (parts_laid track track.parts) _ others in
-      let opens : top_of s one ≡ fine (readable one track) = ap (top_of s) same ∙ o.0 in
+      let opens : top_of s one ≡ Ok (readable one track) = ap (top_of s) same ∙ o.0 in
       let ends : one.place + 8 + one.size ≤ length s = omega (arith, ap (λ (c : Chunk). c.place) same, ap (λ (c : Chunk). c.size) same) in
       let rest = tracks_apart chunks tops st.0 m.3 st.2 o.1 (and_right (parts_laid track track.parts) _ others) in (
         ap₂ (λ (c : Chunk) (l : List Chunk). c ∷ l) (sym same) rest.0,
         (score, track_writes s one track bytes ends score parts opens, rest.1),
       )
 
-module _ (s : List ℕ) (bytes : AllBelow 256 s) (file : File) (reads : contents_of s ≡ fine file) where
-  contents_first : (chunks : List Chunk) (tops : List Top) → file.tops ≡ tops → frame_of s ≡ fine chunks → 10 ≤ length s
-      → Stand (length s - 2) (chunk_step s (length s - 2)) 8 chunks → each (top_of s) chunks ≡ fine tops → tops_laid tops ≡ true → FileLaid s file
+module _ (s : List ℕ) (bytes : AllBelow 256 s) (file : File) (reads : contents_of s ≡ Ok file) where
+  contents_first : (chunks : List Chunk) (tops : List Top) → file.tops ≡ tops → frame_of s ≡ Ok chunks → 10 ≤ length s
+      → Stand (length s - 2) (chunk_step s (length s - 2)) 8 chunks → each (top_of s) chunks ≡ Ok tops → tops_laid tops ≡ true → FileLaid s file
   unfolding tops_laid chunk_of
   contents_first chunks [] is framed long st e ok = absurd (false≢true ok)
   contents_first chunks (readable one track ∷ tops) is framed long st e ok = absurd (false≢true ok)
@@ -94,7 +95,7 @@ module _ (s : List ℕ) (bytes : AllBelow 256 s) (file : File) (reads : contents
         contents = one;
         tracks = tops;
         tops = is;
-        framed = framed ∙ ap₂ (λ (c : Chunk) (l : List Chunk). fine (c ∷ l)) (sym same) rest.0;
+        framed = framed ∙ ap₂ (λ (c : Chunk) (l : List Chunk). Ok (c ∷ l)) (sym same) rest.0;
         named = named;
         five = five;
         first = omega arith;

@@ -7,7 +7,8 @@ use mathlib.Core.Path.{◌≡◌, refl, sym, ◌∙◌, ap, subst}
 use lib.ListN.{length, take}
 use native.Mathlib.Omega.{arith}
 use borrow.Author.Tests.{eq-eqb}
-use Rattle.model.specs.Words.{when◌then◌else◌, ◌and◌, ◌≡?◌, Checked.fine, ◌>>=◌, each}
+use Rattle.model.specs.Words.{when◌then◌else◌, ◌and◌, ◌≡?◌, ◌>>=◌, each}
+use Rattle.std.specs.Prelude.{Ok}
 use Rattle.model.specs.Bytes.{number, part, CNTI}
 use Rattle.model.specs.CheckCode.{check_code}
 use Rattle.model.specs.Chunk.{Chunk, chunk_at}
@@ -27,14 +28,14 @@ use Rattle.whole.proofs.TracksGiven.{number_of, Ready, arrangement_ready}
 use Rattle.whole.proofs.TracksRead.{body_of_track, row_of_tracks, row_of_tracks_lem, tracks_read}
 
 -- the contents chunk is a closed leaf
-contents_leaf : (s : List ℕ) (at : ℕ) (contents : List ℕ) → top_of s (chunk_from at (bodied CNTI contents)) ≡ fine (leaf (chunk_from at (bodied CNTI contents)))
+contents_leaf : (s : List ℕ) (at : ℕ) (contents : List ℕ) → top_of s (chunk_from at (bodied CNTI contents)) ≡ Ok (leaf (chunk_from at (bodied CNTI contents)))
 unfolding top_of voice_of opened ◌>>=◌ when◌then◌else◌
 contents_leaf s at contents = refl
 
 -- a file, by its frame and what its chunks were opened as
-contents_read : (s : List ℕ) (chunks : List Chunk) (tops : List Top) → frame_of s ≡ fine chunks → each (top_of s) chunks ≡ fine tops
+contents_read : (s : List ℕ) (chunks : List Chunk) (tops : List Top) → frame_of s ≡ Ok chunks → each (top_of s) chunks ≡ Ok tops
     → contents_of s
-    ≡ fine
+    ≡ Ok
     (record {
       chunk = chunk_at s 0;
       tops = tops;
@@ -47,7 +48,7 @@ contents_read s chunks tops framed opens = rw (framed, opens) refl
 -- what is said of a file that was written
 pub record ReadsBack (s : List ℕ) (arrangement : Arrangement) : Type 0 where
   pub file : File
-  pub reads : contents_of s ≡ fine file
+  pub reads : contents_of s ≡ Ok file
   pub matches : file.matches ≡ true
   pub holds : held_in s file ≡ arrangement
   pub laid : is_laid file ≡ true
@@ -98,6 +99,6 @@ module _ (arrangement : Arrangement) (ready : Ready arrangement) where
       subst (λ (s : List ℕ). ReadsBack s arrangement) same (row_reads (subst (λ (s : List ℕ). length s < 4294967296) (sym same) few))
 
 pub written_reads : (numbers bytes : List ℕ) (arrangement : Arrangement) → AllBelow 4294967296 numbers → AllBelow 256 bytes
-    → arrangement_of numbers bytes ≡ fine arrangement → length (file_bytes arrangement) < 4294967296 → ReadsBack (file_bytes arrangement) arrangement
+    → arrangement_of numbers bytes ≡ Ok arrangement → length (file_bytes arrangement) < 4294967296 → ReadsBack (file_bytes arrangement) arrangement
 written_reads numbers bytes arrangement small below given few =
     ready_reads arrangement (arrangement_ready numbers bytes arrangement small below given) few

@@ -5,7 +5,8 @@ use mathlib.Core.List.{List, [], ◌∷◌, ◌++◌, map}
 use mathlib.Core.Path.{◌≡◌, refl, sym, ◌∙◌, ap, ap₂}
 use lib.ListN.{length, take}
 use borrow.Author.Tests.{eqb-true}
-use Rattle.model.specs.Words.{Checked.fine}
+use Rattle.model.specs.Words.{}
+use Rattle.std.specs.Prelude.{Ok}
 use Rattle.model.specs.Bytes.{number, part, CNTI}
 use Rattle.model.specs.CheckCode.{check_code}
 use Rattle.model.specs.Chunk.{body_bytes}
@@ -28,7 +29,7 @@ tracks_again s bytes (leaf chunk ∷ tops) laid = absurd laid
 tracks_again s bytes (readable chunk track ∷ tops) laid =
     ap₂ (λ (l : List ℕ) (m : List ℕ). l ++ m) (track_again s bytes chunk track laid.1 laid.0) (tracks_again s bytes tops laid.2)
 
-module _ (s : List ℕ) (bytes : AllBelow 256 s) (file : File) (reads : contents_of s ≡ fine file) (ok : is_laid file ≡ true) (right : file.matches ≡ true) where
+module _ (s : List ℕ) (bytes : AllBelow 256 s) (file : File) (reads : contents_of s ≡ Ok file) (ok : is_laid file ≡ true) (right : file.matches ≡ true) where
   -- all chunks of the file, by what it holds
   chunks_again : (laid : FileLaid s file)
       → chunk_bytes CNTI (part s 16 5) ++ tracks_bytes (tracks_held s file.tops) ≡ row_bytes (row_of s (laid.contents ∷ map chunk_of laid.tracks))

@@ -7,7 +7,8 @@ use lib.ListN.{length, take, drop, length-append}
 use lib.Seq.{take-append_seam, drop-append_seam}
 use native.Mathlib.Omega.{arith}
 use borrow.Author.Tests.{le-ltb, le-leb, eq-eqb}
-use Rattle.model.specs.Words.{when◌then◌else◌, ◌and◌, ◌or◌, ◌<?◌, ◌≡?◌, any, Checked.fine, ◌>>=◌, ◌>>◌}
+use Rattle.model.specs.Words.{when◌then◌else◌, ◌and◌, ◌or◌, ◌<?◌, ◌≡?◌, any, ◌>>=◌, ◌>>◌}
+use Rattle.std.specs.Prelude.{Ok}
 use Rattle.model.specs.Bytes.{number, MMMD, CNTI}
 use Rattle.model.specs.CheckCode.{check_code}
 use Rattle.model.specs.Chunk.{Chunk, chunk_list}
@@ -70,8 +71,8 @@ file_holds row = row_held (file_with (row_bytes row)) row 8 _ (file_follows (row
 
 -- THE FRAME, where each of its checks passes
 frame_passes : (s : List ℕ) (chunks : List Chunk) → (length s <? 10) ≡ false → (number 4 s 0 ≡? MMMD) ≡ true → (number 4 s 4 + 8 ≡? length s) ≡ true
-    → chunk_list (is_allowed list.File) s 8 (length s - 2) ≡ fine chunks → opens_with_contents chunks ≡ true → has_one wanted.Track chunks ≡ true
-    → frame_of s ≡ fine chunks
+    → chunk_list (is_allowed list.File) s 8 (length s - 2) ≡ Ok chunks → opens_with_contents chunks ≡ true → has_one wanted.Track chunks ≡ true
+    → frame_of s ≡ Ok chunks
 unfolding frame_of when◌then◌else◌ ◌or◌ ◌>>◌ ◌>>=◌
 frame_passes s chunks long named sized listed opens tracks = rw (long, named, sized, listed, opens, tracks)
 
@@ -99,7 +100,7 @@ some_track at first more h = row_tracks at (first ∷ more) ∙ or_later (is_tra
 module _ (contents : Bodied) (more : List Bodied) (named : contents.id ≡ CNTI) (long : 5 ≤ length contents.body)
     (tracks : any (λ one. is_track one.id) more ≡ true) (ids : RowNamed (contents ∷ more)) (ok : RowAllowed (is_allowed list.File) [] (contents ∷ more))
     (few : length (row_bytes (contents ∷ more)) + 2 < 4294967296) where
-  pub frame_reads : frame_of (file_with (row_bytes (contents ∷ more))) ≡ fine (chunks_from 8 (contents ∷ more))
+  pub frame_reads : frame_of (file_with (row_bytes (contents ∷ more))) ≡ Ok (chunks_from 8 (contents ∷ more))
   frame_reads =
       let row : List Bodied = contents ∷ more in
       let chunks : List ℕ = row_bytes row in

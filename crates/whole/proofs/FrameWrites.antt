@@ -7,7 +7,8 @@ use lib.ListN.{length, take, drop, take-append-drop, length-drop}
 use lib.Seq.{take_all}
 use native.Mathlib.Omega.{arith}
 use borrow.Author.Tests.{eqb-true, not-false}
-use Rattle.model.specs.Words.{◌<?◌, ◌≡?◌, Checked.fine, passed}
+use Rattle.model.specs.Words.{◌<?◌, ◌≡?◌, passed}
+use Rattle.std.specs.Prelude.{Ok}
 use Rattle.model.specs.Bytes.{◌!◌, number, part, MMMD}
 use Rattle.model.specs.CheckCode.{check_code}
 use Rattle.model.specs.Chunk.{Chunk, chunk_list}
@@ -24,13 +25,13 @@ use Rattle.whole.proofs.ChunkRow.{row_bytes, row_of}
 use Rattle.whole.proofs.ChunksWrite.{parts_joined, chunks_write}
 
 -- THE FILE'S OWN ID
-frame_named : (s : List ℕ) (chunks : List Chunk) → frame_of s ≡ fine chunks → number 4 s 0 ≡ MMMD
+frame_named : (s : List ℕ) (chunks : List Chunk) → frame_of s ≡ Ok chunks → number 4 s 0 ≡ MMMD
 unfolding frame_of
 frame_named s chunks e =
     let a = then_fine _ _ chunks e in
     eqb-true _ _ (not-false _ (neither_second (length s <? 10) (not (number 4 s 0 ≡? MMMD)) (not_refused _ 2 0 passed a.0)))
 
-pub frame_list : (s : List ℕ) (chunks : List Chunk) → frame_of s ≡ fine chunks → chunk_list (is_allowed list.File) s 8 (length s - 2) ≡ fine chunks
+pub frame_list : (s : List ℕ) (chunks : List Chunk) → frame_of s ≡ Ok chunks → chunk_list (is_allowed list.File) s 8 (length s - 2) ≡ Ok chunks
 unfolding frame_of
 frame_list s chunks e =
     let a = then_fine _ _ chunks e in
@@ -40,7 +41,7 @@ frame_list s chunks e =
     let f = then_fine _ _ chunks d.1 in
     c.1 ∙ f.1
 
-module _ (s : List ℕ) (chunks : List Chunk) (bytes : (k : ℕ) → s ! k < 256) (framed : frame_of s ≡ fine chunks) where
+module _ (s : List ℕ) (chunks : List Chunk) (bytes : (k : ℕ) → s ! k < 256) (framed : frame_of s ≡ Ok chunks) where
   pub chunks_written : row_bytes (row_of s chunks) ≡ part s 8 (length s - 10)
   chunks_written =
       let long = long_enough s chunks framed in

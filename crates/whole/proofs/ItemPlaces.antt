@@ -5,7 +5,8 @@ use mathlib.Core.List.{List, [], ◌∷◌, map, append-nil}
 use mathlib.Core.Path.{◌≡◌, refl, sym, ◌∙◌, ap, ap₂, subst, fun_ext}
 use lib.ListN.{length}
 use native.Mathlib.Omega.{arith}
-use Rattle.model.specs.Words.{◌or◌, ◌≡?◌, any, Placed, placed_from, Checked.fine}
+use Rattle.model.specs.Words.{◌or◌, ◌≡?◌, any, Placed, placed_from}
+use Rattle.std.specs.Prelude.{Ok}
 use Rattle.model.specs.Bytes.{◌!◌}
 use Rattle.model.specs.Item.{Item, item_step, body_of}
 use Rattle.model.specs.Seek.{Entry}
@@ -67,7 +68,7 @@ module _ (voice : Voice) (s : List ℕ) where
       (subst (λ (n : ℕ). Stand (length s) (item_step voice s) n placed) next st.2))
 
 pub written_places : (voice : Voice) (items : List (Item Content)) (placed : List (Placed (Item Event))) → AllFit voice items
-    → body_of voice (bytes_of handy_phone items) ≡ fine placed → contents_in (bytes_of handy_phone items) placed ≡ items
+    → body_of voice (bytes_of handy_phone items) ≡ Ok placed → contents_in (bytes_of handy_phone items) placed ≡ items
     → places_of (items_placed items) ≡ places_of placed
 unfolding items_placed
 written_places voice items placed fit reads same =
@@ -75,7 +76,7 @@ written_places voice items placed fit reads same =
     let all : Stands s 0 s = subst (λ (t : List ℕ). Stands t 0 s) (append-nil s) (stands_between [] s []) in
     stand_places voice s items placed 0 fit all same (body_stands voice s placed reads)
 
-pub read_places : (voice : Voice) (s : List ℕ) (placed : List (Placed (Item Event))) → ((k : ℕ) → s ! k < 256) → body_of voice s ≡ fine placed
+pub read_places : (voice : Voice) (s : List ℕ) (placed : List (Placed (Item Event))) → ((k : ℕ) → s ! k < 256) → body_of voice s ≡ Ok placed
     → places_of (items_placed (contents_in s placed)) ≡ places_of placed
 read_places voice s placed bytes reads =
     let whole : bytes_of handy_phone (contents_in s placed) ≡ s = body_writes voice s bytes placed reads in
@@ -85,13 +86,13 @@ read_places voice s placed bytes reads =
 -- so that points hold in the one where they hold in the other
 pub written_points : (voice : Voice) (items : List (Item Content)) (placed : List (Placed (Item Event))) (phrases : Bool) (size : ℕ)
     (entries : List (Placed Entry))
-    → AllFit voice items → body_of voice (bytes_of handy_phone items) ≡ fine placed → contents_in (bytes_of handy_phone items) placed ≡ items
+    → AllFit voice items → body_of voice (bytes_of handy_phone items) ≡ Ok placed → contents_in (bytes_of handy_phone items) placed ≡ items
     → points_of phrases (items_placed items) size entries ≡ points_of phrases placed size entries
 written_points voice items placed phrases size entries fit reads same =
     same_points (items_placed items) placed (written_places voice items placed fit reads same) size phrases entries
 
 pub read_points : (voice : Voice) (s : List ℕ) (placed : List (Placed (Item Event))) (phrases : Bool) (size : ℕ) (entries : List (Placed Entry))
-    → ((k : ℕ) → s ! k < 256) → body_of voice s ≡ fine placed
+    → ((k : ℕ) → s ! k < 256) → body_of voice s ≡ Ok placed
     → points_of phrases (items_placed (contents_in s placed)) size entries ≡ points_of phrases placed size entries
 read_points voice s placed phrases size entries bytes reads =
     same_points (items_placed (contents_in s placed)) placed (read_places voice s placed bytes reads) size phrases entries

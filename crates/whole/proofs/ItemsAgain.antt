@@ -6,7 +6,8 @@ use mathlib.Core.Path.{◌≡◌, refl, sym, ◌∙◌, ap, subst}
 use lib.ListN.{length, length-map}
 use native.Mathlib.Omega.{arith}
 use borrow.Author.Tests.{le-leb, le-ltb, eq-eqb, ne_eqb, leb-true}
-use Rattle.model.specs.Words.{when◌then◌else◌, ◌and◌, ◌or◌, ◌≤?◌, Placed, Checked.fine, passed, ◌>>=◌, ◌>>◌, told_at, Step.met}
+use Rattle.model.specs.Words.{when◌then◌else◌, ◌and◌, ◌or◌, ◌≤?◌, Placed, passed, ◌>>=◌, ◌>>◌, told_at, Step.met, Checked}
+use Rattle.std.specs.Prelude.{Ok, Err}
 use Rattle.model.specs.Bytes.{◌!◌, part}
 use Rattle.model.specs.Item.{Item, Item.timed, Item.end_mark, duration_of, item_at, item_met, item_step, body_of}
 use Rattle.model.specs.Word.{word_of, InWord}
@@ -19,7 +20,7 @@ use Rattle.model.specs.declared.Voice.TheVariants.{Score, Pcm}
 use Rattle.model.specs.declared.Event.{Event}
 use Rattle.model.specs.declared.Event.TheVariants.{Nop, Note, Wave, Control, Exclusive}
 use Rattle.model.specs.declared.ReadItem.{ReadItem}
-use Rattle.model.specs.declared.ReadItem.TheVariants.{Timed, EndMark, Refused}
+use Rattle.model.specs.declared.ReadItem.TheVariants.{Timed, EndMark}
 use Rattle.model.proofs.Parts.{part_length}
 use Rattle.model.proofs.Tests.{and_left, and_right, both_true}
 use Rattle.model.proofs.Walks.{Stand}
@@ -129,31 +130,31 @@ item_numbers_length (item ∷ rest) = omega (arith, item_numbers_length rest)
 
 -- so that its duration and word are taken for it
 word_taken : (voice : Voice) (s : List ℕ) (duration word : ℕ) (event : Event) → duration ≤ 16511 → (kind_in word ≡ 16 → ⊥) → is_kind voice (kind_in word) ≡ true
-    → event_in word ≡ event → event_given s event ≡ passed → event_word event ≡ word → item_given voice s duration word ≡ fine (timed duration (content_of s event))
+    → event_in word ≡ event → event_given s event ≡ passed → event_word event ≡ word → item_given voice s duration word ≡ Ok (timed duration (content_of s event))
 unfolding item_given word_given when◌then◌else◌ ◌or◌ ◌and◌ ◌>>◌
 word_taken voice s duration word event short other known says passes exact =
     let same = eq-eqb word word refl in
     simp (le-ltb, ne_eqb, known, says, passes, exact, same)
 
-mark_taken : (voice : Voice) (s : List ℕ) → item_given voice s 0 mark_word ≡ fine end_mark
+mark_taken : (voice : Voice) (s : List ℕ) → item_given voice s 0 mark_word ≡ Ok end_mark
 unfolding item_given is_kind when◌then◌else◌ ◌or◌ ◌and◌ ◌>>◌
 mark_taken Score s = refl
 mark_taken Pcm s = refl
 
 module _ (voice : Voice) (s : List ℕ) (bytes : (k : ℕ) → s ! k < 256) (small : length s ≤ 65536) where
   abbrev Taken : Item Event → Type 0
-  Taken item = item_given voice s (duration_of item) (item_word item) ≡ fine (content_in s item)
+  Taken item = item_given voice s (duration_of item) (item_word item) ≡ Ok (content_in s item)
 
   -- an event that was read, and its duration
-  pub event_in_word : (at duration : ℕ) (event : Event) (next : ℕ) → item_at voice s at ≡ Timed duration event next → (duration ≤ 16511) × InWord event
+  pub event_in_word : (at duration : ℕ) (event : Event) (next : ℕ) → item_at voice s at ≡ Ok (Timed duration event next) → (duration ≤ 16511) × InWord event
   unfolding item_fits
   event_in_word at duration event next e =
       let fits = read_fits s bytes voice at duration event next e in
       let written = (timed_writes voice s bytes at duration event next e).fits in
       (leb-true duration 16511 (and_left _ _ written), in_word voice s event small fits (and_right (duration ≤? 16511) _ written))
 
-  event_taken : (at duration : ℕ) (event : Event) (next : ℕ) → item_at voice s at ≡ Timed duration event next
-      → item_given voice s duration (event_word event) ≡ fine (timed duration (content_of s event))
+  event_taken : (at duration : ℕ) (event : Event) (next : ℕ) → item_at voice s at ≡ Ok (Timed duration event next)
+      → item_given voice s duration (event_word event) ≡ Ok (timed duration (content_of s event))
   event_taken at duration event next e =
       let fits = read_fits s bytes voice at duration event next e in
       let inside = event_in_word at duration event next e in
@@ -161,26 +162,26 @@ module _ (voice : Voice) (s : List ℕ) (bytes : (k : ℕ) → s ! k < 256) (sma
       word_taken voice s duration (event_word event) event inside.0 (λ k. no_mark event inside.1 (sym kind ∙ k))
       (ap (is_kind voice) kind ∙ kind_known voice s event fits) (given_word_back event inside.1) (event_passes voice s event fits) refl
 
-  met_taken : (at : ℕ) (item : Placed (Item Event)) (next : ℕ) (j : ReadItem) → item_at voice s at ≡ j → item_met at j ≡ met item next → Taken item.what
+  met_taken : (at : ℕ) (item : Placed (Item Event)) (next : ℕ) (j : Checked ReadItem) → item_at voice s at ≡ j → item_met at j ≡ met item next → Taken item.what
   unfolding item_met duration_of item_word content_in
-  met_taken at item next (Timed duration event n) is e =
+  met_taken at item next (Ok (Timed duration event n)) is e =
       let same : ◌≡◌ {A = Placed (Item Event)} (record { place = at; what = timed duration event }) item = cc in
       subst (λ (p : Placed (Item Event)). Taken p.what) same (event_taken at duration event n is)
-  met_taken at item next (EndMark n) is e =
+  met_taken at item next (Ok (EndMark n)) is e =
       let same : ◌≡◌ {A = Placed (Item Event)} (record { place = at; what = end_mark }) item = cc in
       subst (λ (p : Placed (Item Event)). Taken p.what) same (mark_taken voice s)
-  met_taken at item next (Refused number place) is e = let z : ◌≡◌ {A = ℕ} 0 1 = cc in absurd (omega arith)
+  met_taken at item next (Err why) is e = let z : ◌≡◌ {A = ℕ} 0 1 = cc in absurd (omega arith)
 
   from_taken : (placed : List (Placed (Item Event))) (at index : ℕ) → Stand (length s) (item_step voice s) at placed
-      → items_from voice s (length placed) index (items_numbers placed) ≡ fine (contents_in s placed)
+      → items_from voice s (length placed) index (items_numbers placed) ≡ Ok (contents_in s placed)
   unfolding item_step items_from items_numbers contents_in told_at ◌>>=◌
   from_taken [] at index st = refl
   from_taken (item ∷ rest) at index st =
       let first = met_taken at item st.0 (item_at voice s at) refl st.1 in
       rw (first, from_taken rest st.0 (index + 1) st.2)
 
-  pub items_given_again : (placed : List (Placed (Item Event))) → body_of voice s ≡ fine placed
-      → items_given voice s (items_numbers placed) ≡ fine (contents_in s placed)
+  pub items_given_again : (placed : List (Placed (Item Event))) → body_of voice s ≡ Ok placed
+      → items_given voice s (items_numbers placed) ≡ Ok (contents_in s placed)
   unfolding items_given when◌then◌else◌ contents_in
   items_given_again placed reads =
       let count : length (items_numbers placed) / 2 ≡ length placed = omega (arith, item_numbers_length placed) in

@@ -3,16 +3,16 @@ use Prim.Native.Nat.{ℕ}
 use mathlib.Core.List.{List, [], ◌∷◌}
 use mathlib.Core.Bool.{Bool}
 use mathlib.Core.Path.{◌≡◌, refl, ap, subst}
-use native.Mathlib.Omega.{arith}
-use Rattle.model.specs.Words.{◌otherwise◌, ◌or_else◌, first_said, Placed, Checked.fine}
+use Rattle.model.specs.Words.{◌otherwise◌, ◌or_else◌, first_said, Placed}
+use Rattle.std.specs.Prelude.{Ok}
 use Rattle.model.specs.Item.{is_fine, found}
-use Rattle.model.specs.Seek.{Entry, Entry.start, Entry.stop, Entry.phrase, Entry.order, tag, order_in, order_list, seek_of}
+use Rattle.model.specs.Seek.{Entry, Entry.start, Entry.stop, Entry.phrase, Entry.order, tag, order_in, order_list, entry_of, seek_of}
 use Rattle.model.specs.Track.{point_width}
 use Rattle.model.specs.Answer.{letters_of}
-use Rattle.model.specs.declared.ReadEntry.{ReadEntry}
-use Rattle.model.specs.declared.ReadEntry.TheVariants.{Start, Stop, Phrase, Order, Refused}
-use Rattle.seek.specs.Next.{is_refused}
-use Rattle.seek.proofs.Ahead.{entry_of, placed}
+use Rattle.model.specs.declared.Read.{Read}
+use Rattle.model.specs.declared.SeekEntry.{SeekEntry}
+use Rattle.model.specs.declared.SeekEntry.TheVariants.{Start, Stop, Phrase, Order}
+use Rattle.seek.proofs.Ahead.{placed}
 use Rattle.seek.proofs.Standing.{Without, Met, walk_all}
 
 abbrev pub OrderIs : List ℕ → Entry → Type 0
@@ -37,16 +37,19 @@ no_orders : (letters : List ℕ) (entries : List (Placed Entry)) → Without 0x5
 no_orders letters [] w = tt
 no_orders letters (entry ∷ entries) w = (no_order letters entry.what w.0, no_orders letters entries w.1)
 
-one_more : (s : List ℕ) (at : ℕ) (entry : ReadEntry) (more : List (Placed Entry)) → Met s at entry more → OrdersAre (letters_of more) more
-    → OrdersAre (letters_of (placed s at entry ∷ more)) (placed s at entry ∷ more)
-unfolding letters_of order_list first_said order_in entry_of is_refused tag ◌or_else◌ ◌otherwise◌
-one_more s at (Start value next) more m p = (tt, p)
-one_more s at (Stop value next) more m p = (tt, p)
-one_more s at (Phrase letter from to next) more m p = (tt, p)
-one_more s at (Order letters next) more m p = (refl, no_orders _ more m.last)
-one_more s at Refused more m p = let e = m.whole in let z : ◌≡◌ {A = ℕ} 0 1 = cc in absurd (omega arith)
+with_entry : (s : List ℕ) (at : ℕ) (entry : SeekEntry) (more : List (Placed Entry)) → Without (tag (entry_of s at entry)) more
+    → OrdersAre (letters_of more) more → OrdersAre (letters_of (placed s at entry ∷ more)) (placed s at entry ∷ more)
+unfolding letters_of order_list first_said order_in entry_of tag ◌or_else◌ ◌otherwise◌
+with_entry s at (Start value) more last p = (tt, p)
+with_entry s at (Stop value) more last p = (tt, p)
+with_entry s at (Phrase letter from to) more last p = (tt, p)
+with_entry s at (Order letters) more last p = (refl, no_orders _ more last)
 
-pub orders_said : (phrases : Bool) (s : List ℕ) (entries : List (Placed Entry)) → seek_of (point_width phrases) s ≡ fine entries
+one_more : (s : List ℕ) (at : ℕ) (read : Read SeekEntry) (more : List (Placed Entry)) → Met s at read more → OrdersAre (letters_of more) more
+    → OrdersAre (letters_of (placed s at read.what ∷ more)) (placed s at read.what ∷ more)
+one_more s at read more m p = with_entry s at read.what more m.last p
+
+pub orders_said : (phrases : Bool) (s : List ℕ) (entries : List (Placed Entry)) → seek_of (point_width phrases) s ≡ Ok entries
     → OrdersAre (letters_of entries) entries
 unfolding is_fine found
 orders_said phrases s entries reads =

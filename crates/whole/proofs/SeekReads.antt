@@ -7,7 +7,8 @@ use lib.Seq.{drop-drop, drop_at, get_or-drop}
 use native.Mathlib.Nat.{add-zero}
 use native.Mathlib.Omega.{arith}
 use borrow.Author.Tests.{le-leb, lt-leb}
-use Rattle.model.specs.Words.{when◌then◌else◌, ◌and◌, ◌or◌, any, Placed, placed_from, Checked.fine, Step.met, walk_of, in_turn}
+use Rattle.model.specs.Words.{when◌then◌else◌, ◌and◌, ◌or◌, any, Placed, placed_from, Step.met, walk_of, in_turn}
+use Rattle.std.specs.Prelude.{Ok}
 use Rattle.model.specs.Bytes.{◌!◌}
 use Rattle.model.specs.Seek.{Entry, is_letter, letters_in_front, followed, entry_step, in_order, seek_of}
 use Rattle.model.specs.SeekBytes.{entry_bytes, further_bytes, seek_bytes, entries_placed}
@@ -61,8 +62,8 @@ module _ (width : ℕ) (s : List ℕ) where
 
 -- what the order of entries asks, all of them are, each at its place
 pub seek_reads : (width : ℕ) (entries : List Entry) (placed : List (Placed Entry)) → 0 < length entries → EntriesFit width entries
-    → in_turn in_order [] (walk_of (entries_placed width entries)) ≡ fine placed
-    → (seek_of width (seek_bytes width entries) ≡ fine placed) × (placed ≡ entries_placed width entries)
+    → in_turn in_order [] (walk_of (entries_placed width entries)) ≡ Ok placed
+    → (seek_of width (seek_bytes width entries) ≡ Ok placed) × (placed ≡ entries_placed width entries)
 unfolding entries_placed seek_bytes
 seek_reads width [] placed some fit e = absurd (omega arith)
 seek_reads width (entry ∷ entries) placed some fit e =
@@ -71,4 +72,4 @@ seek_reads width (entry ∷ entries) placed some fit e =
     let long : 0 < length s = omega (arith, length-append (entry_bytes width entry) (further_bytes width entries), entry_length width entry) in
     let reads = stands_reads width s (entries_placed width (entry ∷ entries))
     (record { some = long; stands = entries_stand width s entry entries 0 fit refl; passes = all.1 }) in
-    (reads ∙ ap fine (sym all.0), all.0)
+    (reads ∙ ap Ok (sym all.0), all.0)

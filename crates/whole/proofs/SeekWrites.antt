@@ -6,7 +6,8 @@ use mathlib.Core.Path.{◌≡◌, sym, ◌∙◌, ap, ap₂, subst}
 use lib.ListN.{length, drop, length-append, drop_of_length-le}
 use lib.Seq.{drop-length}
 use native.Mathlib.Omega.{arith}
-use Rattle.model.specs.Words.{Placed, placed_from, Checked.fine, Step.met}
+use Rattle.model.specs.Words.{Placed, placed_from, Step.met}
+use Rattle.std.specs.Prelude.{Ok}
 use Rattle.model.specs.Bytes.{◌!◌}
 use Rattle.model.specs.Seek.{Entry, entry_step, seek_of}
 use Rattle.model.specs.SeekBytes.{entry_bytes, further_bytes, seek_bytes, entries_placed}
@@ -81,7 +82,7 @@ module _ (width : ℕ) (s : List ℕ) (bytes : (k : ℕ) → s ! k < 256) where
   entries_there entry (another ∷ rest) at st =
       one_more entry another rest at st.0 (entry_writes width s at bytes entry st.0 st.1) st.2 (entries_there another rest st.0 st.2)
 
-  module _ (placed : List (Placed Entry)) (reads : seek_of width s ≡ fine placed) where
+  module _ (placed : List (Placed Entry)) (reads : seek_of width s ≡ Ok placed) where
     all_there : EntriesThere width s 0 placed
     all_there = go placed st.stands
       where

@@ -8,7 +8,8 @@ use lib.ListN.{length, take, length-append}
 use lib.Seq.{take_at, drop_at}
 use native.Mathlib.Omega.{arith}
 use borrow.Author.Tests.{ne_eqb, le-ltb}
-use Rattle.model.specs.Words.{when◌then◌else◌, ◌or◌, Checked.fine, ◌>>=◌, ◌>>◌, told_at}
+use Rattle.model.specs.Words.{when◌then◌else◌, ◌or◌, ◌>>=◌, ◌>>◌, told_at}
+use Rattle.std.specs.Prelude.{Ok}
 use Rattle.model.specs.Bytes.{part}
 use Rattle.model.specs.File.{Top, Top.leaf, Top.readable, File, contents_of}
 use Rattle.model.specs.SeekBytes.{entries_numbers}
@@ -57,14 +58,14 @@ module _ (s : List ℕ) where
 
   -- and these for what the file holds
   tracks_taken : AllBelow 256 s → length s ≤ 65536 → (tops : List Top) (index : ℕ) → TracksLaid s tops
-      → tracks_from index (givens_held s tops) ≡ fine (tracks_held s tops)
+      → tracks_from index (givens_held s tops) ≡ Ok (tracks_held s tops)
   unfolding tracks_from givens_held tracks_held told_at ◌>>=◌
   tracks_taken bytes few [] index laid = refl
   tracks_taken bytes few (leaf chunk ∷ tops) index laid = absurd laid
   tracks_taken bytes few (readable chunk track ∷ tops) index laid =
       rw (track_given_again s bytes few chunk track laid.1, tracks_taken bytes few tops (index + 1) laid.2) refl
 
-module _ (s : List ℕ) (bytes : AllBelow 256 s) (file : File) (reads : contents_of s ≡ fine file) (ok : is_laid file ≡ true) (few : length s ≤ 65536) where
+module _ (s : List ℕ) (bytes : AllBelow 256 s) (file : File) (reads : contents_of s ≡ Ok file) (ok : is_laid file ≡ true) (few : length s ≤ 65536) where
   abbrev numbers : List ℕ
   numbers = numbers_held file.tops
 
@@ -81,7 +82,7 @@ module _ (s : List ℕ) (bytes : AllBelow 256 s) (file : File) (reads : contents
         ap (given_from (length numbers) numbers) (drop_at (part s 16 5) (bytes_held s file.tops) 5 contents_long)
         ∙ rw laid.tops (tables_split s laid.tracks (length (numbers_held laid.tracks)) laid.laid (omega arith))
 
-    all_taken : arrangement_of numbers others ≡ fine (held_in s file)
+    all_taken : arrangement_of numbers others ≡ Ok (held_in s file)
     unfolding arrangement_of held_in tracks_held when◌then◌else◌ ◌>>◌ ◌>>=◌
     all_taken =
         let front : take 5 others ≡ part s 16 5 = take_at (part s 16 5) (bytes_held s file.tops) 5 contents_long in
@@ -95,7 +96,7 @@ module _ (s : List ℕ) (bytes : AllBelow 256 s) (file : File) (reads : contents
           laid.tops,
         ) refl
 
-  pub tables_given_again : arrangement_of (numbers_held file.tops) (part s 16 5 ++ bytes_held s file.tops) ≡ fine (held_in s file)
+  pub tables_given_again : arrangement_of (numbers_held file.tops) (part s 16 5 ++ bytes_held s file.tops) ≡ Ok (held_in s file)
   tables_given_again = all_taken (file_laid s bytes file reads ok)
 
   module _ (right : file.matches ≡ true) (sixteen : length file.tops ≤ 17) (room : ℕ) (enough : length s ≤ room) where
@@ -106,7 +107,7 @@ module _ (s : List ℕ) (bytes : AllBelow 256 s) (file : File) (reads : contents
         let long = held_long s laid.tracks laid.laid in
         rw laid.tops (omega (arith, ap length laid.tops))
 
-    pub writes_again : write_of (numbers_held file.tops) (part s 16 5 ++ bytes_held s file.tops) room ≡ fine s
+    pub writes_again : write_of (numbers_held file.tops) (part s 16 5 ++ bytes_held s file.tops) room ≡ Ok s
     unfolding write_of within_room when◌then◌else◌ ◌or◌ ◌>>◌ ◌>>=◌
     writes_again =
         let same = read_writes s bytes file reads ok right in

@@ -2,11 +2,11 @@
 use Prim.Native.Nat.{ℕ, ◌%◌, ◌<◌, ◌≤◌}
 use mathlib.Core.Bool.{true}
 use mathlib.Core.List.{List, [], ◌∷◌, ◌++◌}
-use mathlib.Core.Option.{Option, none, some}
+use Rattle.std.specs.Prelude.{Option, None, Some, Ok}
 use mathlib.Core.Path.{◌≡◌}
 use lib.ListN.{length}
 use native.Mathlib.Omega.{arith}
-use Rattle.model.specs.Words.{◌otherwise◌, first_said, Placed, Checked.fine}
+use Rattle.model.specs.Words.{◌otherwise◌, first_said, Placed}
 use Rattle.model.specs.Bytes.{part, MspI}
 use Rattle.model.specs.Chunk.{Chunk, body_place}
 use Rattle.model.specs.Seek.{Entry, order_list}
@@ -46,8 +46,8 @@ none_said =
 seek_below : (track : Track) (seek : Option (List ℕ)) → AllBelow 256 (seek_part seek) → length (seek_part seek) ≤ 65536 → SeekLaid track seek
     → SeekBelow track.entries
 unfolding seek_part
-seek_below track none small short laid = rw laid none_said
-seek_below track (some seek) small short laid =
+seek_below track None small short laid = rw laid none_said
+seek_below track (Some seek) small short laid =
     let bytes = chunk_below MspI seek small in
     let long = chunk_length MspI seek in
     record {
@@ -92,7 +92,7 @@ module _ (s : List ℕ) (bytes : AllBelow 256 s) (few : length s ≤ 65536) wher
       (one_below 256 (chunk.id % 256) fixed number (part_below 256 (body_place chunk) fixed_size s bytes)) (entries_below chunk track laid.1).letters
       (body_below s bytes chunk track laid.1) (bytes_held_lem tops laid.2)
 
-  pub tables_below : (file : File) → contents_of s ≡ fine file → is_laid file ≡ true
+  pub tables_below : (file : File) → contents_of s ≡ Ok file → is_laid file ≡ true
       → AllBelow 4294967296 (numbers_held file.tops) × AllBelow 256 (part s 16 5 ++ bytes_held s file.tops)
   unfolding numbers_held bytes_held
   tables_below file reads ok =

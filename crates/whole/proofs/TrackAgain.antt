@@ -3,12 +3,12 @@
 use Prim.Native.Nat.{ℕ, ◌%◌, ◌≤◌}
 use mathlib.Core.Bool.{Bool, true, false}
 use mathlib.Core.List.{List, []}
-use mathlib.Core.Option.{Option, none, some}
+use Rattle.std.specs.Prelude.{Option, None, Some, Ok}
 use mathlib.Core.Path.{◌≡◌, refl, sym, ◌∙◌, ap, subst}
 use lib.ListN.{length}
 use native.Mathlib.Omega.{arith}
 use borrow.Author.Tests.{eq-eqb}
-use Rattle.model.specs.Words.{when◌then◌else◌, ◌and◌, Placed, Checked.fine, passed, ◌>>=◌, ◌>>◌, all_pass}
+use Rattle.model.specs.Words.{when◌then◌else◌, ◌and◌, Placed, passed, ◌>>=◌, ◌>>◌, all_pass}
 use Rattle.model.specs.Bytes.{◌!◌, part, MspI}
 use Rattle.model.specs.Chunk.{Chunk, body_place}
 use Rattle.model.specs.Item.{Item}
@@ -50,10 +50,10 @@ given_held s chunk track =
 
 -- ITS ENTRIES
 entries_again : (track : Track) (seek : Option (List ℕ)) → AllBelow 256 (seek_part seek) → SeekLaid track seek
-    → entries_given track.phrases (letters_of track.entries) (entries_numbers track.entries) ≡ fine track.entries
+    → entries_given track.phrases (letters_of track.entries) (entries_numbers track.entries) ≡ Ok track.entries
 unfolding seek_part entries_numbers
-entries_again track none small laid = rw laid (none_given track.phrases (letters_of []))
-entries_again track (some seek) small laid = entries_given_again track.phrases seek (chunk_below MspI seek small) track.entries laid.0
+entries_again track None small laid = rw laid (none_given track.phrases (letters_of []))
+entries_again track (Some seek) small laid = entries_given_again track.phrases seek (chunk_below MspI seek small) track.entries laid.0
 
 -- ITS POINTS
 no_points : (phrases : Bool) (items : List (Placed (Item Event))) (size : ℕ) → points_of phrases items size [] ≡ passed
@@ -64,8 +64,8 @@ no_points false items size = refl
 points_held : (phrases : Bool) (items : List (Placed (Item Event))) (size : ℕ) (seek : Option (List ℕ)) (entries : List (Placed Entry))
     → SeekReads phrases items size seek entries → points_of phrases items size entries ≡ passed
 unfolding seek_in
-points_held phrases items size none entries said = ap (points_of phrases items size) said ∙ no_points phrases items size
-points_held phrases items size (some seek) entries said =
+points_held phrases items size None entries said = ap (points_of phrases items size) said ∙ no_points phrases items size
+points_held phrases items size (Some seek) entries said =
     let a = bind_fine (seek_of (point_width phrases) seek) _ entries said in
     let b = then_fine (points_of phrases items size a.0) _ entries a.2 in
     let same : a.0 ≡ entries = let q = b.1 in cc in
@@ -73,10 +73,10 @@ points_held phrases items size (some seek) entries said =
 
 -- THE TRACK, where each of its checks passes
 given_passes : (given : Given) (items : List (Item Content)) (entries : List (Placed Entry)) → fixed_given given.fixed ≡ passed
-    → items_given Score given.source given.items ≡ fine items
-    → entries_given (has_phrases given.fixed) given.letters given.entries ≡ fine entries
+    → items_given Score given.source given.items ≡ Ok items
+    → entries_given (has_phrases given.fixed) given.letters given.entries ≡ Ok entries
     → points_of (has_phrases given.fixed) (items_placed items) (length (bytes_of handy_phone items)) entries ≡ passed
-    → track_given given ≡ fine (record { number = given.number; fixed = given.fixed; entries = entries_in entries; items = items })
+    → track_given given ≡ Ok (record { number = given.number; fixed = given.fixed; entries = entries_in entries; items = items })
 unfolding track_given ◌>>◌ ◌>>=◌
 given_passes given items entries fixed found sought points = rw (fixed, found, sought, points) refl
 
@@ -88,7 +88,7 @@ module _ (s : List ℕ) (bytes : AllBelow 256 s) (few : length s ≤ 65536) (chu
   unfolding fixed_given when◌then◌else◌ ◌and◌
   fixed_again = rw (eq-eqb (fixed ! 0) 0 laid.format, laid.fits)
 
-  pub track_given_again : track_given (given_held s chunk track) ≡ fine (track_held s chunk track)
+  pub track_given_again : track_given (given_held s chunk track) ≡ Ok (track_held s chunk track)
   unfolding given_held track_held
   track_given_again =
       let small = body_below s bytes chunk track laid in
@@ -102,5 +102,5 @@ module _ (s : List ℕ) (bytes : AllBelow 256 s) (few : length s ≤ 65536) (chu
       ∙ points_held track.phrases track.items (length track.body) laid.seek track.entries laid.said in
       given_passes (given_held s chunk track) items track.entries fixed_again
       (items_given_again Score track.body small (omega (arith, body_short s bytes chunk track laid)) track.items laid.reads)
-      (subst (λ (p : Bool). entries_given p (letters_of track.entries) (entries_numbers track.entries) ≡ fine track.entries) phrases said)
+      (subst (λ (p : Bool). entries_given p (letters_of track.entries) (entries_numbers track.entries) ≡ Ok track.entries) phrases said)
       (subst (λ (p : Bool). points_of p (items_placed items) (length (bytes_of handy_phone items)) track.entries ≡ passed) phrases holds)

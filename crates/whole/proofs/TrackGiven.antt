@@ -2,12 +2,12 @@
 use Prim.Native.Nat.{ℕ, ◌<◌}
 use mathlib.Core.Bool.{Bool, true}
 use mathlib.Core.List.{List, [], ◌∷◌}
-use mathlib.Core.Option.{Option, none, some}
+use Rattle.std.specs.Prelude.{Option, None, Some, Ok}
 use mathlib.Core.Path.{◌≡◌, refl, sym, ◌∙◌, subst}
 use lib.ListN.{length}
 use native.Mathlib.Omega.{arith}
 use borrow.Author.Tests.{eqb-true}
-use Rattle.model.specs.Words.{◌and◌, ◌≡?◌, Placed, Checked.fine, passed, ◌>>=◌, ◌>>◌}
+use Rattle.model.specs.Words.{◌and◌, ◌≡?◌, Placed, passed, ◌>>=◌, ◌>>◌}
 use Rattle.model.specs.Bytes.{◌!◌}
 use Rattle.model.specs.Item.{Item, is_fine, body_of}
 use Rattle.model.specs.Seek.{Entry, seek_of}
@@ -32,8 +32,8 @@ use Rattle.whole.proofs.TrackRow.{seek_part, SeekReads}
 
 -- the body of the seek chunk, where there is one
 unfoldable pub seek_body : ℕ → List Entry → Option (List ℕ)
-seek_body width [] = none
-seek_body width (entry ∷ entries) = some (seek_bytes width (entry ∷ entries))
+seek_body width [] = None
+seek_body width (entry ∷ entries) = Some (seek_bytes width (entry ∷ entries))
 
 pub seek_part_lem : (width : ℕ) (entries : List Entry) → seek_part (seek_body width entries) ≡ seek_chunk width entries
 unfolding seek_part seek_body seek_chunk
@@ -59,7 +59,7 @@ pub record TrackReady (track : ScoreTrack) : Type 0 where
   pub format : track.fixed ! 0 ≡ 0
   pub fits : fixed_fits Score track.fixed 0 ≡ true
   pub items : List (Placed (Item Event))
-  pub reads : body_of Score (sequence_of track) ≡ fine items
+  pub reads : body_of Score (sequence_of track) ≡ Ok items
   pub items_are : contents_in (sequence_of track) items ≡ track.items
   pub entries : List (Placed Entry)
   pub said : SeekReads (has_phrases track.fixed) items (length (sequence_of track)) (seek_of_track track) entries
@@ -67,7 +67,7 @@ pub record TrackReady (track : ScoreTrack) : Type 0 where
 
 -- the entries, where the points hold
 seek_said : (phrases : Bool) (items : List (Placed (Item Event))) (size : ℕ) (entries : List (Placed Entry))
-    → (0 < length entries → seek_of (point_width phrases) (seek_bytes (point_width phrases) (entries_in entries)) ≡ fine entries)
+    → (0 < length entries → seek_of (point_width phrases) (seek_bytes (point_width phrases) (entries_in entries)) ≡ Ok entries)
     → points_of phrases items size entries ≡ passed → SeekReads phrases items size (seek_body (point_width phrases) (entries_in entries)) entries
 unfolding seek_body seek_in ◌>>=◌ ◌>>◌
 seek_said phrases items size [] reads points = refl
@@ -76,7 +76,7 @@ seek_said phrases items size (entry ∷ entries) reads points = rw (reads (omega
 module _ (given : Given) (well : GivenWell given) where
   -- by the parts that its checks found
   track_found_lem : (items : List (Item Content)) (entries : List (Placed Entry)) → is_fine (fixed_given given.fixed) ≡ true
-      → items_given Score given.source given.items ≡ fine items → entries_given (has_phrases given.fixed) given.letters given.entries ≡ fine entries
+      → items_given Score given.source given.items ≡ Ok items → entries_given (has_phrases given.fixed) given.letters given.entries ≡ Ok entries
       → is_fine (points_of (has_phrases given.fixed) (items_placed items) (length (bytes_of handy_phone items)) entries) ≡ true
       → TrackReady (record { number = given.number; fixed = given.fixed; entries = entries_in entries; items = items })
   unfolding fixed_given
@@ -102,7 +102,7 @@ module _ (given : Given) (well : GivenWell given) where
         entries_are = refl;
       }
 
-  pub track_ready : (track : ScoreTrack) → track_given given ≡ fine track → TrackReady track × (track.number ≡ given.number)
+  pub track_ready : (track : ScoreTrack) → track_given given ≡ Ok track → TrackReady track × (track.number ≡ given.number)
   unfolding track_given
   track_ready track e =
       let a = then_fine _ _ track e in

@@ -1,7 +1,7 @@
 -- Ticket 3: a score track that was read in the layout is written again with the bytes that it had.
 use Prim.Native.Nat.{ℕ, ◌+◌, ◌*◌, ◌/◌, ◌%◌, ◌<◌, ◌≤◌}
 use mathlib.Core.List.{List, [], ◌∷◌, ◌++◌, append_assoc}
-use mathlib.Core.Option.{Option, none, some}
+use Rattle.std.specs.Prelude.{Option, None, Some}
 use mathlib.Core.Path.{◌≡◌, refl, sym, ◌∙◌, ap, ap₂, subst}
 use lib.ListN.{length, length-append, length-map}
 use native.Mathlib.Omega.{arith}
@@ -39,8 +39,8 @@ seek_chunk_lem width (entry ∷ entries) many = refl
 seek_again : (track : Track) (seek : Option (List ℕ)) → AllBelow 256 (seek_part seek) → SeekLaid track seek
     → seek_chunk (point_width track.phrases) (entries_in track.entries) ≡ seek_part seek
 unfolding seek_part seek_chunk
-seek_again track none small laid = rw laid refl
-seek_again track (some seek) small laid =
+seek_again track None small laid = rw laid refl
+seek_again track (Some seek) small laid =
     let width : ℕ = point_width track.phrases in
     let bytes = chunk_below MspI seek small in
     let many : 0 < length (entries_in track.entries) =

@@ -2,9 +2,9 @@
 use Prim.Native.Nat.{ℕ, ◌+◌}
 use mathlib.Core.Bool.{Bool}
 use mathlib.Core.List.{List, [], ◌∷◌, ◌++◌, append-nil}
-use mathlib.Core.Option.{Option, none, some}
+use Rattle.std.specs.Prelude.{Option, None, Some, Ok}
 use mathlib.Core.Path.{◌≡◌, ap}
-use Rattle.model.specs.Words.{Placed, Checked.fine}
+use Rattle.model.specs.Words.{Placed}
 use Rattle.model.specs.Bytes.{◌!◌, MspI, Mtsq}
 use Rattle.model.specs.Item.{Item}
 use Rattle.model.specs.Seek.{Entry}
@@ -17,23 +17,23 @@ use Rattle.whole.proofs.ChunkRow.{Bodied, bodied, row_bytes, chunks_from}
 
 -- the bytes of the seek chunk
 unfoldable pub seek_part : Option (List ℕ) → List ℕ
-seek_part none = []
-seek_part (some seek) = chunk_bytes MspI seek
+seek_part None = []
+seek_part (Some seek) = chunk_bytes MspI seek
 
 -- the sub-chunks in their order
 unfoldable pub track_row : Option (List ℕ) → List ℕ → List Bodied
-track_row none body = bodied Mtsq body ∷ []
-track_row (some seek) body = bodied MspI seek ∷ bodied Mtsq body ∷ []
+track_row None body = bodied Mtsq body ∷ []
+track_row (Some seek) body = bodied MspI seek ∷ bodied Mtsq body ∷ []
 
 pub track_row_bytes : (seek : Option (List ℕ)) (body : List ℕ) → row_bytes (track_row seek body) ≡ seek_part seek ++ chunk_bytes Mtsq body
 unfolding row_bytes track_row seek_part
-track_row_bytes none body = append-nil (chunk_bytes Mtsq body)
-track_row_bytes (some seek) body = ap (λ (l : List ℕ). chunk_bytes MspI seek ++ l) (append-nil (chunk_bytes Mtsq body))
+track_row_bytes None body = append-nil (chunk_bytes Mtsq body)
+track_row_bytes (Some seek) body = ap (λ (l : List ℕ). chunk_bytes MspI seek ++ l) (append-nil (chunk_bytes Mtsq body))
 
 -- the entries that a seek body says, none without one
 abbrev pub SeekReads : Bool → List (Placed (Item Event)) → ℕ → Option (List ℕ) → List (Placed Entry) → Type 0
-SeekReads phrases items size none entries = entries ≡ []
-SeekReads phrases items size (some seek) entries = seek_in phrases items size seek ≡ fine entries
+SeekReads phrases items size None entries = entries ≡ []
+SeekReads phrases items size (Some seek) entries = seek_in phrases items size seek ≡ Ok entries
 
 -- the track that is read where its header stands at a place
 unfoldable pub track_from : ℕ → List ℕ → Option (List ℕ) → List ℕ → List (Placed (Item Event)) → List (Placed Entry) → Track

@@ -3,13 +3,13 @@
 use Prim.Native.Nat.{ℕ, ◌+◌, ◌-◌, ◌/◌, ◌<◌, ◌≤◌}
 use mathlib.Core.Bool.{Bool, true, false≢true}
 use mathlib.Core.List.{List, [], ◌∷◌, ◌++◌, map, append_assoc}
-use mathlib.Core.Option.{Option, none, some}
+use Rattle.std.specs.Prelude.{Option, None, Some, Ok}
 use mathlib.Core.Path.{◌≡◌, refl, sym, ◌∙◌, ap, ap₂, subst}
 use lib.ListN.{length}
 use native.Mathlib.Nat.{add-zero}
 use native.Mathlib.Omega.{arith}
 use borrow.Author.Tests.{eq-eqb, ne_eqb, eqb-true}
-use Rattle.model.specs.Words.{when◌then◌else◌, ◌or◌, ◌<?◌, ◌≤?◌, ◌≡?◌, first, Placed, Checked.fine}
+use Rattle.model.specs.Words.{when◌then◌else◌, ◌or◌, ◌<?◌, ◌≤?◌, ◌≡?◌, first, Placed}
 use Rattle.model.specs.Bytes.{◌!◌, part, MTR, MspI, Mtsq}
 use Rattle.model.specs.Chunk.{Chunk, body_place, place_after, body_bytes, chunk_step}
 use Rattle.model.specs.Item.{Item, is_fine, body_of}
@@ -37,9 +37,9 @@ use Rattle.whole.proofs.TrackRow.{seek_part, track_row, track_row_bytes, SeekRea
 
 -- its seek body has the form of its entries and nothing behind them
 abbrev pub SeekLaid : Track → Option (List ℕ) → Type 0
-SeekLaid track none = track.entries ≡ []
-SeekLaid track (some seek) =
-    (seek_of (point_width track.phrases) seek ≡ fine track.entries)
+SeekLaid track None = track.entries ≡ []
+SeekLaid track (Some seek) =
+    (seek_of (point_width track.phrases) seek ≡ Ok track.entries)
     × (length seek ≡ length (seek_bytes (point_width track.phrases) (map (λ entry. entry.what) track.entries)))
 
 pub record TrackLaid (s : List ℕ) (chunk : Chunk) (track : Track) : Type 0 where
@@ -47,14 +47,14 @@ pub record TrackLaid (s : List ℕ) (chunk : Chunk) (track : Track) : Type 0 whe
   pub held : body_bytes s chunk ≡ part s (body_place chunk) fixed_size ++ seek_part seek ++ chunk_bytes Mtsq track.body
   pub laid : SeekLaid track seek
   pub said : SeekReads track.phrases track.items (length track.body) seek track.entries
-  pub reads : body_of Score track.body ≡ fine track.items
+  pub reads : body_of Score track.body ≡ Ok track.items
   pub phrased : track.phrases ≡ has_phrases (part s (body_place chunk) fixed_size)
   pub six : length (part s (body_place chunk) fixed_size) ≡ 6
   pub format : part s (body_place chunk) fixed_size ! 0 ≡ 0
   pub fits : fixed_fits Score (part s (body_place chunk) fixed_size) 0 ≡ true
 
 -- ITS VOICE
-score_voice_lem : (s : List ℕ) (body size : ℕ) (voice : Voice) → score_voice s body size ≡ fine (some voice) → (voice ≡ Score) × (s ! body ≡ 0)
+score_voice_lem : (s : List ℕ) (body size : ℕ) (voice : Voice) → score_voice s body size ≡ Ok (Some voice) → (voice ≡ Score) × (s ! body ≡ 0)
 unfolding score_voice when◌then◌else◌
 score_voice_lem s body size voice e =
     by_test ((size ≡? 0) or (3 ≤? s ! body))
@@ -64,7 +64,7 @@ score_voice_lem s body size voice e =
     (λ g. let is = rw (h, g) at e in let same : Score ≡ voice = cc in (sym same, eqb-true (s ! body) 0 g))
     (λ g. let no = rw (h, g) at e in let z : ◌≡◌ {A = ℕ} 0 1 = cc in absurd (omega arith)))
 
-track_score : (s : List ℕ) (chunk : Chunk) (voice : Voice) → chunk.id / 256 ≡ MTR → voice_of s chunk ≡ fine (some voice)
+track_score : (s : List ℕ) (chunk : Chunk) (voice : Voice) → chunk.id / 256 ≡ MTR → voice_of s chunk ≡ Ok (Some voice)
     → (voice ≡ Score) × (s ! body_place chunk ≡ 0)
 unfolding voice_of when◌then◌else◌
 track_score s chunk voice score e =
@@ -85,7 +85,7 @@ fixed_apart s at h = rw (part_at s at 6 1 (omega arith), part_at s at 6 2 (omega
 
 -- ITS SUB-CHUNKS: a seek body that passed its checks has the form of its entries
 seek_form : (phrases : Bool) (items : List (Placed (Item Event))) (size : ℕ) (seek : List ℕ) (entries : List (Placed Entry))
-    → seek_in phrases items size seek ≡ fine entries → seek_of (point_width phrases) seek ≡ fine entries
+    → seek_in phrases items size seek ≡ Ok entries → seek_of (point_width phrases) seek ≡ Ok entries
 unfolding seek_in
 seek_form phrases items size seek entries e =
     let a = bind_fine _ _ entries e in
@@ -93,7 +93,7 @@ seek_form phrases items size seek entries e =
     a.1 ∙ b.1
 
 -- the one of an ID, where it is the first or the second
-named_first : (id : ℕ) (one : Chunk) (more : List Chunk) → one.id ≡ id → part_named id (one ∷ more) ≡ some one
+named_first : (id : ℕ) (one : Chunk) (more : List Chunk) → one.id ≡ id → part_named id (one ∷ more) ≡ Some one
 unfolding part_named first
 named_first id one more h = if_true (one.id ≡? id) _ _ (eq-eqb one.id id h)
 
@@ -101,7 +101,7 @@ named_later : (id : ℕ) (one : Chunk) (more : List Chunk) → (one.id ≡ id �
 unfolding part_named first
 named_later id one more h = if_false (one.id ≡? id) _ _ (ne_eqb one.id id h)
 
-named_none : (id : ℕ) → part_named id [] ≡ none
+named_none : (id : ℕ) → part_named id [] ≡ None
 unfolding part_named first
 named_none id = refl
 
@@ -115,29 +115,29 @@ module _ (s : List ℕ) (track : Track) (sequence : Chunk) where
       × SeekReads track.phrases track.items (length body) seek track.entries
 
   abbrev Said : Option Chunk → Type 0
-  Said seek = entries_of track.phrases track.items (length body) s seek ≡ fine track.entries
+  Said seek = entries_of track.phrases track.items (length body) s seek ≡ Ok track.entries
 
-  one_laid : (one : Chunk) → one.id ≡ Mtsq → part_named Mtsq (one ∷ []) ≡ some sequence → Said (part_named MspI (one ∷ [])) → Laid (one ∷ [])
+  one_laid : (one : Chunk) → one.id ≡ Mtsq → part_named Mtsq (one ∷ []) ≡ Some sequence → Said (part_named MspI (one ∷ [])) → Laid (one ∷ [])
   unfolding row_of track_row entries_of
   one_laid one named found said =
       let first_is = named_first Mtsq one [] named in
       let same : one ≡ sequence = cc in
-      let missing : part_named MspI (one ∷ []) ≡ none = named_later MspI one [] (λ e. omega arith) ∙ named_none MspI in
+      let missing : part_named MspI (one ∷ []) ≡ None = named_later MspI one [] (λ e. omega arith) ∙ named_none MspI in
       let nothing = rw missing at said in
       let empty : track.entries ≡ [] = cc in
-      (none, ap₂ (λ (id : ℕ) (c : Chunk). bodied id (body_bytes s c) ∷ []) named same, empty, empty)
+      (None, ap₂ (λ (id : ℕ) (c : Chunk). bodied id (body_bytes s c) ∷ []) named same, empty, empty)
 
   two_laid : (one two : Chunk) → one.id ≡ MspI → two.id ≡ Mtsq
       → one.size ≡ length (seek_bytes (point_width track.phrases) (map (λ entry. entry.what) track.entries)) → place_after one ≤ length s
-      → part_named Mtsq (one ∷ two ∷ []) ≡ some sequence → Said (part_named MspI (one ∷ two ∷ [])) → Laid (one ∷ two ∷ [])
+      → part_named Mtsq (one ∷ two ∷ []) ≡ Some sequence → Said (part_named MspI (one ∷ two ∷ [])) → Laid (one ∷ two ∷ [])
   unfolding row_of track_row entries_of
   two_laid one two sought named sized within found said =
       let second_is = named_later Mtsq one (two ∷ []) (λ e. omega arith) ∙ named_first Mtsq two [] named in
       let same : two ≡ sequence = cc in
-      let there : part_named MspI (one ∷ two ∷ []) ≡ some one = named_first MspI one (two ∷ []) sought in
+      let there : part_named MspI (one ∷ two ∷ []) ≡ Some one = named_first MspI one (two ∷ []) sought in
       let counted = rw there at said in
       let reads = counted_fine (body_place one) _ track.entries counted in (
-        some (body_bytes s one),
+        Some (body_bytes s one),
         ap₂ (λ (first : Bodied) (second : Bodied). first ∷ second ∷ [])
             (ap (λ (id : ℕ). bodied id (body_bytes s one)) sought)
             (ap₂ (λ (id : ℕ) (c : Chunk). bodied id (body_bytes s c)) named same),
@@ -149,7 +149,7 @@ module _ (s : List ℕ) (track : Track) (sequence : Chunk) where
       )
 
   parts_laid_lem : (parts : List Chunk) (at end : ℕ) → at ≤ end → end ≤ length s → Stand end (chunk_step s end) at parts → parts_laid track parts ≡ true
-      → part_named Mtsq parts ≡ some sequence → Said (part_named MspI parts) → Laid parts
+      → part_named Mtsq parts ≡ Some sequence → Said (part_named MspI parts) → Laid parts
   unfolding parts_laid
   parts_laid_lem [] at end h within st ok found said = absurd (false≢true ok)
   parts_laid_lem (one ∷ []) at end h within st ok found said = one_laid one (eqb-true one.id Mtsq ok) found said
@@ -166,7 +166,7 @@ module _ (s : List ℕ) (chunk : Chunk) (track : Track) (bytes : (k : ℕ) → s
   abbrev place : ℕ
   place = body_place chunk
 
-  track_laid : s ! place ≡ 0 → track_of s Score chunk ≡ fine track → TrackLaid s chunk track
+  track_laid : s ! place ≡ 0 → track_of s Score chunk ≡ Ok track → TrackLaid s chunk track
   unfolding has_phrases
   track_laid zero-first e =
       let room = fixed_inside s Score chunk track e in
@@ -185,15 +185,15 @@ module _ (s : List ℕ) (chunk : Chunk) (track : Track) (bytes : (k : ℕ) → s
             ∙ sym (append_assoc (part s place 6) (seek_part p.0) (chunk_bytes Mtsq track.body));
         laid = p.2;
         said = subst (λ (l : List ℕ). SeekReads track.phrases track.items (length l) p.0 track.entries) body_is p.3;
-        reads = subst (λ (l : List ℕ). body_of Score l ≡ fine track.items) body_is made.reads;
+        reads = subst (λ (l : List ℕ). body_of Score l ≡ Ok track.items) body_is made.reads;
         phrased = made.phrased ∙ ap (λ (n : ℕ). n ≡? 1) (sym (part_at s place 6 1 (omega arith)));
         six = part_length s place 6 (omega arith);
         format = part_at s place 6 0 (omega arith) ∙ ap (λ (n : ℕ). s ! n) (add-zero place) ∙ zero-first;
         fits = fixed_apart s place (fixed_passed s chunk made.fixed);
       }
 
-  pub track_writes : top_of s chunk ≡ fine (readable chunk track) → TrackLaid s chunk track
+  pub track_writes : top_of s chunk ≡ Ok (readable chunk track) → TrackLaid s chunk track
   track_writes e =
       let o = opened_as s chunk (readable chunk track) e in
       let v = track_score s chunk o.1 score o.2 in
-      track_laid v.1 (subst (λ (voice : Voice). track_of s voice chunk ≡ fine track) v.0 o.3)
+      track_laid v.1 (subst (λ (voice : Voice). track_of s voice chunk ≡ Ok track) v.0 o.3)

@@ -6,7 +6,8 @@ use mathlib.Core.Path.{◌≡◌, refl, sym, ap, subst}
 use lib.ListN.{length, take, drop, length-take, length-drop}
 use native.Mathlib.Omega.{arith}
 use borrow.Author.Tests.{eqb-false, ltb-false}
-use Rattle.model.specs.Words.{◌<?◌, ◌≡?◌, any, Checked.fine, passed}
+use Rattle.model.specs.Words.{◌<?◌, ◌≡?◌, any, passed}
+use Rattle.std.specs.Prelude.{Ok}
 use Rattle.model.specs.Bytes.{◌!◌}
 use Rattle.model.specs.Arrangement.{ScoreTrack, Arrangement}
 use Rattle.model.specs.Tables.{Given, numbers_taken, bytes_taken, first_given, given_from, given_in, once_from, track_given, tracks_from, arrangement_of}
@@ -65,7 +66,7 @@ abbrev ReadyOnce : List ℕ → ℕ → List ScoreTrack → Type 0
 ReadyOnce before count tracks = (length tracks ≡ count) × NumbersOnce number_of before tracks × AllReady tracks
 
 tracks_ready : (givens : List Given) (before : List ℕ) (at index : ℕ) (tracks : List ScoreTrack) → AllWell givens → once_from before at givens ≡ passed
-    → tracks_from index givens ≡ fine tracks → ReadyOnce before (length givens) tracks
+    → tracks_from index givens ≡ Ok tracks → ReadyOnce before (length givens) tracks
 unfolding once_from tracks_from
 tracks_ready [] before at index tracks well once e = let none : [] ≡ tracks = cc in subst (ReadyOnce before 0) none (refl, tt, tt)
 tracks_ready (given ∷ rest) before at index tracks well once e =
@@ -88,7 +89,7 @@ pub record Ready (arrangement : Arrangement) : Type 0 where
   pub ready : AllReady arrangement.tracks
 
 pub arrangement_ready : (numbers bytes : List ℕ) (arrangement : Arrangement) → AllBelow 4294967296 numbers → AllBelow 256 bytes
-    → arrangement_of numbers bytes ≡ fine arrangement → Ready arrangement
+    → arrangement_of numbers bytes ≡ Ok arrangement → Ready arrangement
 unfolding arrangement_of given_in
 arrangement_ready numbers bytes arrangement small below e =
     let a = then_fine _ _ arrangement e in

@@ -6,7 +6,8 @@ use mathlib.Core.Path.{◌≡◌, refl, ◌∙◌, subst}
 use lib.ListN.{length}
 use native.Mathlib.Omega.{arith}
 use borrow.Author.Tests.{ne_eqb, eqb-false}
-use Rattle.model.specs.Words.{◌or◌, ◌≡?◌, any, Checked.fine, passed}
+use Rattle.model.specs.Words.{◌or◌, ◌≡?◌, any, passed}
+use Rattle.std.specs.Prelude.{Ok}
 use Rattle.model.specs.Bytes.{CNTI, MTR}
 use Rattle.model.specs.Chunk.{Chunk, chunk_step, allowed_once, chunk_list}
 use Rattle.model.specs.Track.{is_track, is_wanted, has_one, is_allowed}
@@ -30,7 +31,7 @@ givens_held s (leaf chunk ∷ tops) = givens_held s tops
 givens_held s (readable chunk track ∷ tops) = given_held s chunk track ∷ givens_held s tops
 
 -- ONE AT LEAST
-frame_tracked : (s : List ℕ) (chunks : List Chunk) → frame_of s ≡ fine chunks → has_one wanted.Track chunks ≡ true
+frame_tracked : (s : List ℕ) (chunks : List Chunk) → frame_of s ≡ Ok chunks → has_one wanted.Track chunks ≡ true
 unfolding frame_of
 frame_tracked s chunks e =
     let a = then_fine _ _ chunks e in

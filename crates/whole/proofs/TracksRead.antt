@@ -6,7 +6,8 @@ use mathlib.Core.Path.{◌≡◌, refl, sym, ◌∙◌, ap, ap₂}
 use lib.ListN.{length, drop}
 use native.Mathlib.Omega.{arith}
 use borrow.Author.Tests.{eq-eqb}
-use Rattle.model.specs.Words.{◌and◌, ◌≡?◌, Placed, Checked.fine, ◌>>=◌, each}
+use Rattle.model.specs.Words.{◌and◌, ◌≡?◌, Placed, ◌>>=◌, each}
+use Rattle.std.specs.Prelude.{Ok}
 use Rattle.model.specs.Bytes.{part, MTR, Mtsq}
 use Rattle.model.specs.Chunk.{Chunk, body_place, body_bytes}
 use Rattle.model.specs.Item.{Item}
@@ -73,7 +74,7 @@ module _ (s : List ℕ) (at : ℕ) (track : ScoreTrack) (ready : TrackReady trac
   found_laid = parts_laid_lem at track.fixed track.entries (sequence_of track) ready.items ready.entries ready.entries_are
 
   module _ (held : body_bytes s chunk ≡ body_of_track track) (small : length (body_of_track track) < 4294967296) where
-    top_found : top_of s chunk ≡ fine (readable chunk found)
+    top_found : top_of s chunk ≡ Ok (readable chunk found)
     top_found =
         top_reads s chunk track.number track.fixed (seek_of_track track) (sequence_of track) refl ready.byte (held ∙ by_parts) (ap length by_parts)
         small ready.six ready.format ready.fits ready.items ready.entries ready.reads ready.said
@@ -97,7 +98,7 @@ module _ (s : List ℕ) (at : ℕ) (track : ScoreTrack) (ready : TrackReady trac
 
 -- ALL OF THEM
 pub tracks_read : (s : List ℕ) (tracks : List ScoreTrack) (at : ℕ) → AllReady tracks → RowHeld s at (row_of_tracks tracks) → RowFits (row_of_tracks tracks)
-    → (tops : List Top) × (each (top_of s) (chunks_from at (row_of_tracks tracks)) ≡ fine tops) × (tracks_held s tops ≡ tracks) × (tracks_laid tops ≡ true)
+    → (tops : List Top) × (each (top_of s) (chunks_from at (row_of_tracks tracks)) ≡ Ok tops) × (tracks_held s tops ≡ tracks) × (tracks_laid tops ≡ true)
 unfolding tracks_row chunks_from each ◌>>=◌ tracks_held tracks_laid
 tracks_read s [] at ready held fits = ([], refl, refl, refl)
 tracks_read s (track ∷ tracks) at ready held fits =

@@ -7,50 +7,50 @@ use lib.ListN.{length, length-append}
 use native.Mathlib.Nat.{add-zero, zero-add, sub-zero}
 use native.Mathlib.Omega.{arith}
 use borrow.Author.Tests.{ne_eqb}
-use Rattle.model.specs.Words.{when◌then◌else◌, ◌≡?◌, Checked, Checked.fine, Checked.refused, ◌>>=◌, told_at}
+use Rattle.model.specs.Words.{when◌then◌else◌, ◌≡?◌, Checked, passed, ◌>>=◌, ◌>>◌, told_at, refused}
+use Rattle.std.specs.Prelude.{Ok, Err}
 use Rattle.model.specs.Bytes.{◌!◌}
 use Rattle.model.specs.Duration.{duration_bytes}
 use Rattle.model.specs.Item.{Item, Item.timed, Item.end_mark, is_fine}
 use Rattle.model.specs.Plain.{item_bytes, bytes_of}
 use Rattle.model.specs.Content.{Content, content_bytes, handy_phone}
 use Rattle.model.specs.Writing.{item_given, items_from, items_given}
+use Rattle.model.specs.declared.Refusal.{Refusal}
 use Rattle.model.specs.declared.Voice.{Voice}
-use Rattle.model.specs.declared.Wrote.{Wrote}
-use Rattle.model.specs.declared.Wrote.TheVariants.{Bytes, Refused}
 use Rattle.model.proofs.Tests.{if_false}
-use Rattle.writing.specs.Parts.{limited, fault_in, given_size, given_bytes, size_answer, onto, CheckedTo}
+use Rattle.writing.specs.Parts.{checked, limited, given_size, given_bytes, size_answer, onto, CheckedTo}
 use Rattle.writing.proofs.Durations.{some_bytes}
 use Rattle.writing.proofs.Limits.{limited_small, limited_most, limited_adds}
-use Rattle.writing.proofs.GivenItems.{item_numbered, given_length}
-use Rattle.writing.proofs.Lengths.{fault_none, fault_free}
+use Rattle.writing.proofs.GivenItems.{given_length}
+use Rattle.writing.proofs.Lengths.{passed_fine}
 use Rattle.writing.proofs.Listed.{ahead, from, listed_next, listed_over}
 
 -- BYTES BEFORE WHAT IS LEFT
 
 onto_none : (o : Checked (List (Item Content))) → onto 0 o ≡ size_answer o
 unfolding onto size_answer
-onto_none (fine items) = simp zero-add
-onto_none (refused number place) = refl
+onto_none (Ok items) = simp zero-add
+onto_none (Err why) = refl
 
 onto_limited : (taken : ℕ) (o : Checked (List (Item Content))) → onto (limited taken) o ≡ onto taken o
 unfolding onto
-onto_limited taken (fine items) = ap Bytes (limited_adds taken (length (bytes_of handy_phone items)))
-onto_limited taken (refused number place) = refl
+onto_limited taken (Ok items) = ap (λ (n : ℕ). Ok n) (limited_adds taken (length (bytes_of handy_phone items)))
+onto_limited taken (Err why) = refl
 
 -- an item before what is left: one at fault, and one that is given
-onto_faulty : (index taken number place : ℕ) (more : Checked (List (Item Content))) → onto taken (ahead index (refused number place) more) ≡ Refused number index
+onto_faulty : (index taken number place : ℕ) (more : Checked (List (Item Content))) → onto taken (ahead index (refused number place) more) ≡ refused number index
 unfolding onto ahead told_at ◌>>=◌
 onto_faulty index taken number place more = refl
 
 onto_item : (index taken : ℕ) (item : Item Content) (more : Checked (List (Item Content)))
-    → onto taken (ahead index (fine item) more) ≡ onto (taken + length (item_bytes handy_phone item)) more
+    → onto taken (ahead index (Ok item) more) ≡ onto (taken + length (item_bytes handy_phone item)) more
 unfolding onto ahead told_at ◌>>=◌ bytes_of
-onto_item index taken item (fine items) =
+onto_item index taken item (Ok items) =
     let bytes = item_bytes handy_phone item in
     let rest = bytes_of handy_phone items in
     let e : taken + length (bytes ++ rest) ≡ taken + length bytes + length rest = omega (arith, length-append bytes rest) in
-    ap Bytes (ap limited e)
-onto_item index taken item (refused number place) = refl
+    ap (λ (n : ℕ). Ok (limited n)) e
+onto_item index taken item (Err why) = refl
 
 -- LENGTHS OF ITEMS
 
@@ -61,8 +61,8 @@ item_some end_mark = omega arith
 
 given_some : (one : Checked (Item Content)) → is_fine one ≡ true → length (given_bytes one) ≡ 0 → ⊥
 unfolding given_bytes is_fine
-given_some (fine item) there none = let some = item_some item in omega arith
-given_some (refused number place) there none = false≢true there
+given_some (Ok item) there none = let some = item_some item in omega arith
+given_some (Err why) there none = false≢true there
 
 -- a length over 0 is what the numbers say
 pub length_sized : (voice : Voice) (source : List ℕ) (duration word n : ℕ) → n ≡ length (given_bytes (item_given voice source duration word)) → (n ≡ 0 → ⊥)
@@ -71,19 +71,19 @@ unfolding given_bytes is_fine
 length_sized voice source duration word n is some = go (item_given voice source duration word) refl
   where
     go : (one : Checked (Item Content)) → item_given voice source duration word ≡ one → n ≡ given_size duration word
-    go (fine item) e = is ∙ given_length voice source duration word (ap is_fine e)
-    go (refused number place) e = absurd (some (is ∙ ap (λ (o : Checked (Item Content)). length (given_bytes o)) e))
+    go (Ok item) e = is ∙ given_length voice source duration word (ap is_fine e)
+    go (Err why) e = absurd (some (is ∙ ap (λ (o : Checked (Item Content)). length (given_bytes o)) e))
 
 -- CHECKED SO FAR
 
-is_bytes : Wrote → Bool
-is_bytes (Bytes size) = true
-is_bytes (Refused number place) = false
+is_bytes : Checked ℕ → Bool
+is_bytes (Ok size) = true
+is_bytes (Err why) = false
 
 fine_bytes : (o : Checked (List (Item Content))) → is_fine o ≡ true → is_bytes (size_answer o) ≡ true
 unfolding is_fine size_answer is_bytes
-fine_bytes (fine items) h = refl
-fine_bytes (refused number place) h = absurd (false≢true h)
+fine_bytes (Ok items) h = refl
+fine_bytes (Err why) h = absurd (false≢true h)
 
 module _ (voice : Voice) (source numbers : List ℕ) where
   abbrev total : ℕ
@@ -105,10 +105,10 @@ module _ (voice : Voice) (source numbers : List ℕ) where
     pub checked_limited : CheckedTo voice source numbers index (limited taken)
     checked_limited = record { few = c.few; same = onto_limited taken (left index) ∙ c.same }
 
-    checked_all : (total ≡ 0 → ⊥) → total ≤ index → Bytes (limited taken) ≡ size_answer (items_given voice source numbers)
+    checked_all : (total ≡ 0 → ⊥) → total ≤ index → Ok (limited taken) ≡ size_answer (items_given voice source numbers)
     unfolding onto bytes_of
     checked_all some past =
-        ap Bytes (ap limited (sym (add-zero taken))) ∙ ap (onto taken) (sym (listed_over voice source numbers total index past)) ∙ c.same
+        ap (λ (n : ℕ). Ok (limited n)) (sym (add-zero taken)) ∙ ap (onto taken) (sym (listed_over voice source numbers total index past)) ∙ c.same
         ∙ ap size_answer (sym (some_given some))
 
     module _ (here : index < total) where
@@ -130,33 +130,38 @@ module _ (voice : Voice) (source numbers : List ℕ) where
         checked_next some = go one refl
           where
             go : (o : Checked (Item Content)) → one ≡ o → CheckedTo voice source numbers (index + 1) (taken + n)
-            go (refused number place) e = absurd (some (is ∙ ap (λ (o : Checked (Item Content)). length (given_bytes o)) e))
-            go (fine item) e =
+            go (Err why) e = absurd (some (is ∙ ap (λ (o : Checked (Item Content)). length (given_bytes o)) e))
+            go (Ok item) e =
                 let sized : n ≡ length (item_bytes handy_phone item) = is ∙ ap (λ (o : Checked (Item Content)). length (given_bytes o)) e in
                 record {
                   few = omega arith;
-                  same = ap (λ (k : ℕ). onto (taken + k) (left (index + 1))) sized ∙ sym (onto_item index taken item _) ∙ turned (fine item) e;
+                  same = ap (λ (k : ℕ). onto (taken + k) (left (index + 1))) sized ∙ sym (onto_item index taken item _) ∙ turned (Ok item) e;
                 }
 
-        pub checked_faulty : n ≡ 0 → (fault : ℕ) → fault ≡ fault_in (item_given voice source (numbers ! (2 * index)) (numbers ! (2 * index + 1)))
-            → Refused fault index ≡ size_answer (items_given voice source numbers)
-        unfolding given_bytes fault_in
-        checked_faulty none fault f = go one refl
-          where
-            go : (o : Checked (Item Content)) → one ≡ o → Refused fault index ≡ size_answer (items_given voice source numbers)
-            go (fine item) e =
-                let sized : n ≡ length (item_bytes handy_phone item) = is ∙ ap (λ (o : Checked (Item Content)). length (given_bytes o)) e in
-                let some = item_some item in
-                absurd (omega arith)
-            go (refused number place) e =
-                ap (λ (k : ℕ). Refused k index) (f ∙ ap fault_in e) ∙ sym (onto_faulty index taken number place _) ∙ turned (refused number place) e
-                ∙ ap size_answer (sym (some_given some_items))
+      pub checked_faulty : (why : Refusal) → Err why ≡ checked one → refused why.number index ≡ size_answer (items_given voice source numbers)
+      unfolding ◌>>◌
+      checked_faulty why said = go one refl said
+        where
+          go : (o : Checked (Item Content)) → one ≡ o → Err why ≡ checked o → refused why.number index ≡ size_answer (items_given voice source numbers)
+          go (Ok item) e h = let z : ◌≡◌ {A = ℕ} 0 1 = cc in absurd (omega arith)
+          go (Err found) e h =
+              let same : why ≡ found = cc in
+              ap (λ (w : Refusal). refused w.number index) same ∙ sym (onto_faulty index taken found.number found.place _) ∙ turned (Err found) e
+              ∙ ap size_answer (sym (some_given some_items))
 
-        -- where all items are given, each has a length
-        pub checked_on : is_fine (items_given voice source numbers) ≡ true → n ≡ 0 → ⊥
-        unfolding is_bytes
-        checked_on all none =
-            false≢true (ap is_bytes (checked_faulty none _ refl) ∙ fine_bytes (items_given voice source numbers) all)
+      -- where all items are given, each has a length
+      pub checked_on : (n : ℕ) → n ≡ length (given_bytes one) → is_fine (items_given voice source numbers) ≡ true → n ≡ 0 → ⊥
+      unfolding is_bytes given_bytes ◌>>◌
+      checked_on n is all none = go one refl
+        where
+          go : (o : Checked (Item Content)) → one ≡ o → ⊥
+          go (Ok item) e =
+              let sized : n ≡ length (item_bytes handy_phone item) = is ∙ ap (λ (o : Checked (Item Content)). length (given_bytes o)) e in
+              let some = item_some item in
+              omega arith
+          go (Err why) e =
+              let told : Err why ≡ checked one = sym (ap (λ (o : Checked (Item Content)). checked o) e) in
+              false≢true (ap is_bytes (checked_faulty why told) ∙ fine_bytes (items_given voice source numbers) all)
 
 -- THE LOOP
 
@@ -170,27 +175,26 @@ check_starts voice source numbers index taken size c e =
     rw e (record { small = limited_most taken; to = checked_limited voice source numbers index taken c })
 
 module _ (voice : Voice) (source numbers : List ℕ) (count : ℕ) (counted : count ≡ length numbers / 2) where
-  pub check_none : count ≡ 0 → Refused 11 0 ≡ size_answer (items_given voice source numbers)
+  pub check_none : count ≡ 0 → refused 11 0 ≡ size_answer (items_given voice source numbers)
   unfolding items_given size_answer when◌then◌else◌
   check_none h = let e : length numbers / 2 ≡ 0 = sym counted ∙ h in simp e
 
   module _ (some : count ≡ 0 → ⊥) (size i : ℕ) (r : Checking voice source numbers size i) where
-    pub check_done : count ≤ i → Bytes size ≡ size_answer (items_given voice source numbers)
+    pub check_done : count ≤ i → Ok size ≡ size_answer (items_given voice source numbers)
     check_done h =
-        ap Bytes (sym (limited_small size r.small)) ∙ checked_all voice source numbers i size r.to (λ e. some (counted ∙ e)) (omega arith)
+        ap (λ (n : ℕ). Ok n) (sym (limited_small size r.small)) ∙ checked_all voice source numbers i size r.to (λ e. some (counted ∙ e)) (omega arith)
 
-    module _ (here : i < count) (fault : ℕ) (is : fault ≡ fault_in (item_given voice source (numbers ! (2 * i)) (numbers ! (2 * i + 1)))) where
-      pub check_faulty : (fault ≡ 0 → ⊥) → Refused fault i ≡ size_answer (items_given voice source numbers)
-      check_faulty some-fault =
-          checked_faulty voice source numbers i size r.to (omega arith) _ refl (sym (fault_none _ fault is some-fault)) fault is
+    module _ (here : i < count) (said : Checked (Unit {0})) (is : said ≡ checked (item_given voice source (numbers ! (2 * i)) (numbers ! (2 * i + 1)))) where
+      pub check_faulty : (why : Refusal) → said ≡ Err why → refused why.number i ≡ size_answer (items_given voice source numbers)
+      check_faulty why e = checked_faulty voice source numbers i size r.to (omega arith) why (sym e ∙ is)
 
-      pub check_goes_on : (more next : ℕ) → fault ≡ 0 → more ≡ given_size (numbers ! (2 * i)) (numbers ! (2 * i + 1)) → next ≡ limited (size + more)
+      pub check_goes_on : said ≡ passed → (more next : ℕ) → more ≡ given_size (numbers ! (2 * i)) (numbers ! (2 * i + 1)) → next ≡ limited (size + more)
           → Checking voice source numbers next (i + 1)
-      check_goes_on more next none sized e =
-          let there = fault_free _ (item_numbered voice source _ _) (sym none ∙ is) in
+      check_goes_on e more next sized q =
+          let there = passed_fine _ (sym e ∙ is) in
           let long : more ≡ length (given_bytes (item_given voice source (numbers ! (2 * i)) (numbers ! (2 * i + 1)))) = sized ∙ sym (given_length voice source _ _ there) in
           let bytes : more ≡ 0 → ⊥ = λ z. given_some _ there (sym long ∙ z) in
-          rw e
+          rw q
           (record {
             small = limited_most (size + more);
             to = checked_limited voice source numbers (i + 1) (size + more) (checked_next voice source numbers i size r.to (omega arith) more long bytes);

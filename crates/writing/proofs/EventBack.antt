@@ -2,13 +2,13 @@
 use Prim.Native.Nat.{ℕ, suc, ◌+◌, ◌-◌, ◌*◌, ◌/◌, ◌%◌, ◌<◌, ◌≤◌}
 use mathlib.Core.Bool.{true}
 use mathlib.Core.List.{List, [], ◌∷◌}
-use mathlib.Core.Path.{◌≡◌, refl, sym, ◌∙◌, ap, ap₂, subst}
+use mathlib.Core.Path.{◌≡◌, refl, sym, ◌∙◌, ap, subst}
 use lib.Dec.{T}
 use lib.ListN.{length}
 use native.Mathlib.Decide.{dec_lt}
 use native.Mathlib.Omega.{arith}
 use borrow.Author.Tests.{le-ltb, lt-ltb, le-leb, lt-leb, ne_eqb, leb-true, eqb-true}
-use Rattle.model.specs.Words.{when◌then◌else◌, ◌and◌, ◌≤?◌}
+use Rattle.model.specs.Words.{when◌then◌else◌, ◌and◌, ◌≤?◌, ◌up_to◌}
 use Rattle.model.specs.Bytes.{◌!◌}
 use Rattle.model.specs.Duration.{two_byte_value, duration_at, not_zero, gate_at, duration_bytes}
 use Rattle.model.specs.Event.{is_note, is_wave, is_sound, sound, gated, sound_at, long_at, short_at, formed, control_at, closed_at, exclusive_at, system_at, event_at}
@@ -18,8 +18,7 @@ use Rattle.model.specs.declared.Voice.{Voice}
 use Rattle.model.specs.declared.Voice.TheVariants.{Score, Pcm}
 use Rattle.model.specs.declared.Event.{Event}
 use Rattle.model.specs.declared.Event.TheVariants.{Nop, Note, Wave, Control, Exclusive}
-use Rattle.model.specs.declared.ReadDuration.TheVariants as duration
-use Rattle.model.specs.declared.ReadEvent.TheVariants as event
+use Rattle.std.specs.Prelude.{Ok}
 use Rattle.model.proofs.Tests.{and_left, and_right}
 use Rattle.model.proofs.Codes.{code_low, kind_back}
 use Rattle.writing.proofs.Durations.{one_byte, two_bytes}
@@ -28,12 +27,12 @@ use Rattle.writing.proofs.Numbers.{IsGate, IsNote, IsWave, IsControl, is_note_le
 use Rattle.writing.proofs.Stands.{Stands, stands_byte, stands_within, stands_part}
 
 -- durations and gate times
-short_back : (s : List ℕ) (at value : ℕ) → value < 128 → Stands s at (value ∷ []) → duration_at s at ≡ duration.Is value (at + 1)
+short_back : (s : List ℕ) (at value : ℕ) → value < 128 → Stands s at (value ∷ []) → duration_at s at ≡ Ok (value up_to (at + 1))
 unfolding duration_at when◌then◌else◌
 short_back s at value h st = let a = st.0 in let e = st.1 in simp (lt-leb, lt-ltb, e)
 
 long_back : (s : List ℕ) (at one two : ℕ) → 128 ≤ one → two < 128 → Stands s at (one ∷ two ∷ [])
-    → duration_at s at ≡ duration.Is (two_byte_value one two) (at + 2)
+    → duration_at s at ≡ Ok ((two_byte_value one two) up_to (at + 2))
 unfolding duration_at when◌then◌else◌
 long_back s at one two h k st =
     let a = st.0 in
@@ -43,15 +42,15 @@ long_back s at one two h k st =
     simp (lt-leb, lt-ltb, le-ltb, e, f)
 
 pub duration_back : (s : List ℕ) (at value : ℕ) → value ≤ 16511 → Stands s at (duration_bytes value)
-    → duration_at s at ≡ duration.Is value (at + length (duration_bytes value))
+    → duration_at s at ≡ Ok (value up_to (at + length (duration_bytes value)))
 duration_back s at value m st =
     elim (dec_lt value 128) [
       | yes q ↦ rw one_byte (short_back s at value q (rw one_byte at st))
       | no q ↦ let h : 128 ≤ value = omega arith in
-          rw (two_bytes value h) (long_back s at _ _ (omega arith) (omega arith) (rw (two_bytes value h) at st) ∙ ap₂ duration.Is (omega arith) refl)
+          rw (two_bytes value h) (long_back s at _ _ (omega arith) (omega arith) (rw (two_bytes value h) at st) ∙ ap (λ (n : ℕ). Ok (n up_to (at + 2))) (omega arith))
     ]
 
-gate_back : (s : List ℕ) (at gate : ℕ) → IsGate gate → Stands s at (duration_bytes gate) → gate_at s at ≡ duration.Is gate (at + length (duration_bytes gate))
+gate_back : (s : List ℕ) (at gate : ℕ) → IsGate gate → Stands s at (duration_bytes gate) → gate_at s at ≡ Ok (gate up_to (at + length (duration_bytes gate)))
 unfolding gate_at not_zero when◌then◌else◌
 gate_back s at gate g st =
     let d = duration_back s at gate g.short st in
@@ -75,7 +74,7 @@ unfolding is_note
 note_top low h = leb-true low 12 (and_right (1 ≤? low) _ h)
 
 note_back : (s : List ℕ) (at channel key gate : ℕ) → IsNote channel key gate → Stands s at ((channel * 64 + key) ∷ duration_bytes gate)
-    → event_at Score s at ≡ event.Is (Note channel key gate) (at + length ((channel * 64 + key) ∷ duration_bytes gate))
+    → event_at Score s at ≡ Ok ((Note channel key gate) up_to (at + length ((channel * 64 + key) ∷ duration_bytes gate)))
 unfolding event_at sound_at is_sound sound gated when◌then◌else◌
 note_back s at channel key gate n st =
     let h = st.0 in
@@ -89,10 +88,10 @@ note_back s at channel key gate n st =
     let x : at + 1 + length (duration_bytes gate) ≡ at + length ((channel * 64 + key) ∷ duration_bytes gate) = omega arith in
     let c : (channel * 64 + key) / 64 ≡ channel = omega arith in
     let k : (channel * 64 + key) % 64 ≡ key = omega arith in
-    simp (lt-leb, e, ne_eqb, ok, g, c, k) (ap (event.Is (Note channel key gate)) x)
+    simp (lt-leb, e, ne_eqb, ok, g, c, k) (ap (λ (n : ℕ). Ok ((Note channel key gate) up_to n)) x)
 
 wave_back : (s : List ℕ) (at channel number gate : ℕ) → IsWave channel number gate → Stands s at ((channel * 64 + number) ∷ duration_bytes gate)
-    → event_at Pcm s at ≡ event.Is (Wave channel number gate) (at + length ((channel * 64 + number) ∷ duration_bytes gate))
+    → event_at Pcm s at ≡ Ok ((Wave channel number gate) up_to (at + length ((channel * 64 + number) ∷ duration_bytes gate)))
 unfolding event_at sound_at is_sound is_wave sound gated when◌then◌else◌ ◌and◌
 wave_back s at channel number gate n st =
     let h = st.0 in
@@ -105,9 +104,9 @@ wave_back s at channel number gate n st =
     let x : at + 1 + length (duration_bytes gate) ≡ at + length ((channel * 64 + number) ∷ duration_bytes gate) = omega arith in
     let c : (channel * 64 + number) / 64 ≡ channel = omega arith in
     let k : (channel * 64 + number) % 64 ≡ number = omega arith in
-    simp (lt-leb, e, ne_eqb, le-leb, g, c, k) (ap (event.Is (Wave channel number gate)) x)
+    simp (lt-leb, e, ne_eqb, le-leb, g, c, k) (ap (λ (n : ℕ). Ok ((Wave channel number gate) up_to n)) x)
 
-nop_back : (voice : Voice) (s : List ℕ) (at : ℕ) → Stands s at (0xFF ∷ 0x00 ∷ []) → event_at voice s at ≡ event.Is Nop (at + 2)
+nop_back : (voice : Voice) (s : List ℕ) (at : ℕ) → Stands s at (0xFF ∷ 0x00 ∷ []) → event_at voice s at ≡ Ok (Nop up_to (at + 2))
 unfolding event_at system_at when◌then◌else◌
 nop_back voice s at st =
     let h = st.0 in
@@ -118,7 +117,7 @@ nop_back voice s at st =
 
 -- controls of form 3, and of the other forms
 control_long_back : (voice : Voice) (s : List ℕ) (at kind channel value : ℕ) → kind < 11 → IsControl voice kind channel value
-    → Stands s at (0x00 ∷ (channel * 64 + 3 * 16 + code_of kind) ∷ value ∷ []) → event_at voice s at ≡ event.Is (Control kind channel value) (at + 3)
+    → Stands s at (0x00 ∷ (channel * 64 + 3 * 16 + code_of kind) ∷ value ∷ []) → event_at voice s at ≡ Ok ((Control kind channel value) up_to (at + 3))
 unfolding event_at control_at formed long_at when◌then◌else◌
 control_long_back voice s at kind channel value l n st =
     let h = st.0 in
@@ -138,7 +137,7 @@ control_long_back voice s at kind channel value l n st =
     simp (lt-leb, e, e1, form, chan, lowest, back, e2, ne_eqb, has, ok)
 
 control_short_back : (voice : Voice) (s : List ℕ) (at kind channel value : ℕ) → 11 ≤ kind → IsControl voice kind channel value
-    → Stands s at (0x00 ∷ (channel * 64 + (13 - kind) * 16 + value) ∷ []) → event_at voice s at ≡ event.Is (Control kind channel value) (at + 2)
+    → Stands s at (0x00 ∷ (channel * 64 + (13 - kind) * 16 + value) ∷ []) → event_at voice s at ≡ Ok ((Control kind channel value) up_to (at + 2))
 unfolding event_at control_at formed short_at when◌then◌else◌
 control_short_back voice s at kind channel value l n st =
     let h = st.0 in
@@ -158,7 +157,7 @@ control_short_back voice s at kind channel value l n st =
     simp (lt-leb, e, e1, form, chan, low, back, has, ne_eqb)
 
 control_back : (voice : Voice) (s : List ℕ) (at kind channel value : ℕ) → IsControl voice kind channel value → Stands s at (control_bytes kind channel value)
-    → event_at voice s at ≡ event.Is (Control kind channel value) (at + length (control_bytes kind channel value))
+    → event_at voice s at ≡ Ok ((Control kind channel value) up_to (at + length (control_bytes kind channel value)))
 control_back voice s at kind channel value n st =
     elim (dec_lt kind 11) [
       | yes q ↦ rw (control_long kind channel value q) (control_long_back voice s at kind channel value q n (rw (control_long kind channel value q) at st))
@@ -168,7 +167,7 @@ control_back voice s at kind channel value n st =
 
 -- an exclusive: its last byte closes it
 exclusive_back : (voice : Voice) (s : List ℕ) (at : ℕ) (bytes : List ℕ) → 3 ≤ length bytes → bytes ! (length bytes - 1) ≡ 0xF7
-    → Stands s at (0xFF ∷ 0xF0 ∷ length bytes ∷ bytes) → event_at voice s at ≡ event.Is (Exclusive at (length bytes)) (at + suc (suc (suc (length bytes))))
+    → Stands s at (0xFF ∷ 0xF0 ∷ length bytes ∷ bytes) → event_at voice s at ≡ Ok ((Exclusive at (length bytes)) up_to (at + suc (suc (suc (length bytes)))))
 unfolding event_at system_at exclusive_at closed_at when◌then◌else◌
 exclusive_back voice s at bytes many last st =
     let h = st.0 in
@@ -181,10 +180,10 @@ exclusive_back voice s at bytes many last st =
     let h3 : at + 2 + length bytes < length s = omega (arith, stands_within s (at + 3) bytes (omega arith) body) in
     let p : at + 2 + length bytes ≡ at + 3 + (length bytes - 1) = omega arith in
     let e3 : s ! (at + 2 + length bytes) ≡ 0xF7 = ap (λ (n : ℕ). s ! n) p ∙ stands_byte s (at + 3) bytes (length bytes - 1) (omega arith) body ∙ last in
-    simp (lt-leb, e, e1, e2, le-ltb, e3) (ap (event.Is (Exclusive at (length bytes))) (omega arith))
+    simp (lt-leb, e, e1, e2, le-ltb, e3) (ap (λ (n : ℕ). Ok ((Exclusive at (length bytes)) up_to n)) (omega arith))
 
 pub event_back : (voice : Voice) (s : List ℕ) (at : ℕ) (content : Content) → content_fits voice content ≡ true → Stands s at (content_bytes content)
-    → event_at voice s at ≡ event.Is (event_from at content) (at + length (content_bytes content))
+    → event_at voice s at ≡ Ok ((event_from at content) up_to (at + length (content_bytes content)))
 unfolding content_fits content_bytes event_from note_fits wave_fits
 event_back voice s at nop h st = nop_back voice s at st
 event_back Score s at (note channel key gate) h st = note_back s at channel key gate (is_note_lem Score channel key gate h) st

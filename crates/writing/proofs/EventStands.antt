@@ -7,7 +7,7 @@ use mathlib.Core.Path.{◌≡◌, refl, sym, ◌∙◌}
 use lib.ListN.{length}
 use native.Mathlib.Omega.{arith}
 use borrow.Author.Tests.{le-ltb, le-leb, ltb-true, ltb-false, leb-false, eqb-true, eqb-false, not-false}
-use Rattle.model.specs.Words.{when◌then◌else◌, ◌and◌, ◌<?◌, ◌≤?◌, ◌≡?◌}
+use Rattle.model.specs.Words.{when◌then◌else◌, ◌and◌, ◌<?◌, ◌≤?◌, ◌≡?◌, ◌up_to◌, Checked}
 use Rattle.model.specs.Bytes.{◌!◌}
 use Rattle.model.specs.Duration.{two_byte_value, duration_at, not_zero, gate_at, duration_bytes}
 use Rattle.model.specs.Event.{is_note, is_wave, is_sound, sound, gated, sound_at, long_kind, short_kind, has_kind, is_value, long_at, short_at, formed, control_at, closed_at, exclusive_at, system_at, event_at}
@@ -16,10 +16,9 @@ use Rattle.model.specs.Writing.{is_gate, note_fits, wave_fits, value_fits, contr
 use Rattle.model.specs.declared.Voice.{Voice}
 use Rattle.model.specs.declared.Voice.TheVariants.{Score, Pcm}
 use Rattle.model.specs.declared.Event.TheVariants.{Nop, Control, Exclusive}
-use Rattle.model.specs.declared.ReadDuration.{ReadDuration}
-use Rattle.model.specs.declared.ReadDuration.TheVariants as duration
-use Rattle.model.specs.declared.ReadEvent.{ReadEvent}
-use Rattle.model.specs.declared.ReadEvent.TheVariants as event
+use Rattle.std.specs.Prelude.{Ok, Err}
+use Rattle.model.specs.declared.Read.{Read}
+use Rattle.model.specs.declared.Event.{Event}
 use Rattle.model.proofs.Parts.{part_length}
 use Rattle.model.proofs.Tests.{if_all}
 use Rattle.model.proofs.Codes.{code_back, kind_from, kind_to}
@@ -28,28 +27,28 @@ use Rattle.writing.proofs.Durations.{one_byte, two_bytes}
 use Rattle.writing.proofs.Events.{control_long, control_short}
 use Rattle.writing.proofs.Stands.{Stands, part_stands}
 
-abbrev pub DurationStands : List ℕ → ℕ → ReadDuration → Type 0
-DurationStands s at (duration.Is value next) = (value ≤ 16511) × Stands s at (duration_bytes value) × (next ≡ at + length (duration_bytes value))
-DurationStands s at (duration.Refused number place) = Unit
+abbrev pub DurationStands : List ℕ → ℕ → Checked (Read ℕ) → Type 0
+DurationStands s at (Ok read) = (read.what ≤ 16511) × Stands s at (duration_bytes read.what) × (read.next ≡ at + length (duration_bytes read.what))
+DurationStands s at (Err why) = Unit
 
-abbrev GateStands : List ℕ → ℕ → ReadDuration → Type 0
-GateStands s at (duration.Is gate next) =
-    (1 ≤ gate) × (gate ≤ 16511) × Stands s at (duration_bytes gate) × (next ≡ at + length (duration_bytes gate))
-GateStands s at (duration.Refused number place) = Unit
+abbrev GateStands : List ℕ → ℕ → Checked (Read ℕ) → Type 0
+GateStands s at (Ok read) =
+    (1 ≤ read.what) × (read.what ≤ 16511) × Stands s at (duration_bytes read.what) × (read.next ≡ at + length (duration_bytes read.what))
+GateStands s at (Err why) = Unit
 
-abbrev pub EventStands : Voice → List ℕ → ℕ → ReadEvent → Type 0
-EventStands voice s at (event.Is what next) =
-    (content_fits voice (content_of s what) ≡ true)
-    × Stands s at (content_bytes (content_of s what))
-    × (next ≡ at + length (content_bytes (content_of s what)))
-EventStands voice s at (event.Refused number place) = Unit
+abbrev pub EventStands : Voice → List ℕ → ℕ → Checked (Read Event) → Type 0
+EventStands voice s at (Ok read) =
+    (content_fits voice (content_of s read.what) ≡ true)
+    × Stands s at (content_bytes (content_of s read.what))
+    × (read.next ≡ at + length (content_bytes (content_of s read.what)))
+EventStands voice s at (Err why) = Unit
 
 module _ (s : List ℕ) (bytes : (k : ℕ) → s ! k < 256) where
-  short_stands : (at : ℕ) → at < length s → s ! at < 128 → DurationStands s at (duration.Is (s ! at) (at + 1))
+  short_stands : (at : ℕ) → at < length s → s ! at < 128 → DurationStands s at (Ok ((s ! at) up_to (at + 1)))
   short_stands at h k = rw (one_byte (s ! at) k) (omega arith, (h, refl, tt), refl)
 
   long_stands : (at : ℕ) → at + 1 < length s → 128 ≤ s ! at → s ! (at + 1) < 128
-      → DurationStands s at (duration.Is (two_byte_value (s ! at) (s ! (at + 1))) (at + 2))
+      → DurationStands s at (Ok ((two_byte_value (s ! at) (s ! (at + 1))) up_to (at + 2)))
   long_stands at h k l =
       let b = bytes at in
       let v : 128 ≤ two_byte_value (s ! at) (s ! (at + 1)) = omega arith in
@@ -65,11 +64,11 @@ module _ (s : List ℕ) (bytes : (k : ℕ) → s ! k < 256) where
       (λ d. long_stands at (leb-false (length s) (at + 1) c) (ltb-false (s ! at) 128 b) (ltb-true (s ! (at + 1)) 128 d))
       (λ d. tt))))
 
-  not_zero_stands : (at : ℕ) (d : ReadDuration) → DurationStands s at d → GateStands s at (not_zero at d)
+  not_zero_stands : (at : ℕ) (d : Checked (Read ℕ)) → DurationStands s at d → GateStands s at (not_zero at d)
   unfolding not_zero
-  not_zero_stands at (duration.Is value next) st =
-      if_all (GateStands s at) (value ≡? 0) _ _ (λ z. tt) (λ z. let n = eqb-false value 0 z in (omega arith, st.0, st.1, st.2))
-  not_zero_stands at (duration.Refused number place) st = tt
+  not_zero_stands at (Ok read) st =
+      if_all (GateStands s at) (read.what ≡? 0) _ _ (λ z. tt) (λ z. let n = eqb-false read.what 0 z in (omega arith, st.0, st.1, st.2))
+  not_zero_stands at (Err why) st = tt
 
   gate_stands : (at : ℕ) → GateStands s at (gate_at s at)
   unfolding gate_at
@@ -77,9 +76,9 @@ module _ (s : List ℕ) (bytes : (k : ℕ) → s ! k < 256) where
 
   -- a note or a wave
   module _ (at : ℕ) (here : at < length s) where
-    note_stands : is_note (s ! at % 16) ≡ true → (d : ReadDuration) → GateStands s (at + 1) d → EventStands Score s at (gated Score (s ! at) d)
+    note_stands : is_note (s ! at % 16) ≡ true → (d : Checked (Read ℕ)) → GateStands s (at + 1) d → EventStands Score s at (gated Score (s ! at) d)
     unfolding gated sound content_of content_fits content_bytes note_fits is_gate ◌and◌
-    note_stands n (duration.Is gate next) st =
+    note_stands n (Ok read) st =
         let b = bytes at in
         let g = st.0 in
         let t = st.1 in
@@ -88,18 +87,18 @@ module _ (s : List ℕ) (bytes : (k : ℕ) → s ! k < 256) where
         let k : s ! at % 64 ≤ 63 = omega arith in
         let l : s ! at % 64 % 16 ≡ s ! at % 16 = omega arith in
         (simp (le-leb, l, n), (here, omega arith, st.2), omega arith)
-    note_stands n (duration.Refused number place) st = tt
+    note_stands n (Err why) st = tt
 
-    wave_stands : is_wave (s ! at % 64) ≡ true → (d : ReadDuration) → GateStands s (at + 1) d → EventStands Pcm s at (gated Pcm (s ! at) d)
+    wave_stands : is_wave (s ! at % 64) ≡ true → (d : Checked (Read ℕ)) → GateStands s (at + 1) d → EventStands Pcm s at (gated Pcm (s ! at) d)
     unfolding gated sound content_of content_fits content_bytes wave_fits is_gate ◌and◌
-    wave_stands w (duration.Is gate next) st =
+    wave_stands w (Ok read) st =
         let b = bytes at in
         let g = st.0 in
         let t = st.1 in
         let m = st.3 in
         let c : s ! at / 64 ≤ 3 = omega arith in
         (simp (le-leb, w), (here, omega arith, st.2), omega arith)
-    wave_stands w (duration.Refused number place) st = tt
+    wave_stands w (Err why) st = tt
 
     sound_stands : (voice : Voice) → EventStands voice s at (sound_at voice s at)
     unfolding sound_at is_sound
@@ -111,7 +110,7 @@ module _ (s : List ℕ) (bytes : (k : ℕ) → s ! k < 256) where
   -- a control, whose first byte is 00
   module _ (voice : Voice) (at : ℕ) (here : at < length s) (zero-here : s ! at ≡ 0x00) (next_here : at + 1 < length s) where
     long_control : (kind : ℕ) → kind ≡ long_kind (s ! (at + 1) % 16) → s ! (at + 1) / 16 % 4 ≡ 3 → (kind ≡ 0 → ⊥) → has_kind voice kind ≡ true
-        → at + 2 < length s → is_value kind (s ! (at + 2)) ≡ true → EventStands voice s at (event.Is (Control kind (s ! (at + 1) / 64) (s ! (at + 2))) (at + 3))
+        → at + 2 < length s → is_value kind (s ! (at + 2)) ≡ true → EventStands voice s at (Ok ((Control kind (s ! (at + 1) / 64) (s ! (at + 2))) up_to (at + 3)))
     unfolding content_of content_fits content_bytes control_fits value_fits when◌then◌else◌ ◌and◌
     long_control kind is form some has there ok =
         let b = bytes (at + 1) in
@@ -133,7 +132,7 @@ module _ (s : List ℕ) (bytes : (k : ℕ) → s ! k < 256) where
 
     short_control : (kind : ℕ) → kind ≡ 13 - s ! (at + 1) / 16 % 4 → (s ! (at + 1) / 16 % 4 ≡ 3 → ⊥) → has_kind voice kind ≡ true
         → (s ! (at + 1) % 16 ≡ 0 → ⊥) → (s ! (at + 1) % 16 ≡ 15 → ⊥)
-        → EventStands voice s at (event.Is (Control kind (s ! (at + 1) / 64) (s ! (at + 1) % 16)) (at + 2))
+        → EventStands voice s at (Ok ((Control kind (s ! (at + 1) / 64) (s ! (at + 1) % 16)) up_to (at + 2)))
     unfolding content_of content_fits content_bytes control_fits value_fits when◌then◌else◌ ◌and◌
     short_control kind is form has some less =
         let b = bytes (at + 1) in
@@ -175,12 +174,12 @@ module _ (s : List ℕ) (bytes : (k : ℕ) → s ! k < 256) where
 
   -- a NOP or an exclusive, whose first byte is FF
   module _ (voice : Voice) (at : ℕ) (here : at < length s) (first : s ! at ≡ 0xFF) (next_here : at + 1 < length s) where
-    nop_stands : s ! (at + 1) ≡ 0x00 → EventStands voice s at (event.Is Nop (at + 2))
+    nop_stands : s ! (at + 1) ≡ 0x00 → EventStands voice s at (Ok (Nop up_to (at + 2)))
     unfolding content_of content_fits content_bytes
     nop_stands z = (refl, (here, first, (next_here, z, tt)), refl)
 
     closed_stands : (size : ℕ) → s ! (at + 1) ≡ 0xF0 → size ≡ s ! (at + 2) → 3 ≤ size → at + 2 + size < length s → s ! (at + 2 + size) ≡ 0xF7
-        → EventStands voice s at (event.Is (Exclusive at size) (at + 2 + size + 1))
+        → EventStands voice s at (Ok ((Exclusive at size) up_to (at + 2 + size + 1)))
     unfolding content_of content_bytes
     closed_stands size second is many there last =
         let v = bytes (at + 2) in

@@ -1,4 +1,4 @@
--- One item that is given: its fault, event by event, and what it is where it has none.
+-- One item that is given: what its checks say, event by event, and what it is where it passes them.
 use Prim.Native.Nat.{ℕ, ◌+◌, ◌%◌, ◌<◌, ◌≤◌}
 use mathlib.Core.Bool.{Bool, true, false, not, false≢true}
 use mathlib.Core.List.{List, [], ◌∷◌}
@@ -8,168 +8,114 @@ use lib.ListN.{length}
 use lib.Seq.{sets}
 use native.Mathlib.Omega.{arith}
 use borrow.Author.Tests.{ne_eqb, eqb-true, eqb-false, le-leb, le-ltb, lt-ltb, ltb-false, leb-true}
-use Rattle.model.specs.Words.{when◌then◌else◌, ◌and◌, ◌or◌, ◌<?◌, ◌≤?◌, ◌≡?◌, Checked, Checked.fine, Checked.refused, passed, ◌>>◌}
+use Rattle.model.specs.Words.{when◌then◌else◌, ◌and◌, ◌or◌, ◌<?◌, ◌≤?◌, ◌≡?◌, Checked, passed, ◌>>◌, refused}
+use Rattle.std.specs.Prelude.{Ok, Err}
 use Rattle.model.specs.Duration.{duration_bytes}
 use Rattle.model.specs.Event.{is_note, is_wave, has_kind}
 use Rattle.model.specs.Item.{Item, Item.timed, Item.end_mark, is_fine}
 use Rattle.model.specs.Plain.{item_bytes}
 use Rattle.model.specs.Content.{Content, content_of, handy_phone}
 use Rattle.model.specs.Writing.{is_gate, note_fits, wave_fits, value_fits, control_fits, exclusive_fits, event_fits, timed_bytes, kind_in, channel_in, value_in, gate_in, event_in, event_word, mark_word, is_kind, sound_given, event_given, word_given, item_given}
+use Rattle.model.specs.declared.Refusal.{Refusal}
 use Rattle.model.specs.declared.Voice.{Voice}
 use Rattle.model.specs.declared.Voice.TheVariants.{Score, Pcm}
 use Rattle.model.specs.declared.Event.{Event}
 use Rattle.model.specs.declared.Event.TheVariants.{Nop, Note, Wave, Control, Exclusive}
-use Rattle.model.proofs.Tests.{by_test, if_all, and_left, and_right, both_true, flag_on, flag_off}
+use Rattle.model.proofs.Tests.{by_test, and_left, and_right, both_true, flag_on, flag_off}
 use Rattle.model.proofs.Outcomes.{then_fine, fine_some, not_refused, was_passed, neither_first, neither_second}
-use Rattle.writing.specs.Parts.{event_size, fault_in, given_size, given_bytes}
+use Rattle.writing.specs.Parts.{checked, event_size, given_size, given_bytes}
 use Rattle.writing.proofs.Contents.{event_length_lem}
-use Rattle.writing.proofs.Items.{timed_length, first_room}
+use Rattle.writing.proofs.Items.{timed_length}
 use Rattle.writing.proofs.WordCases.{in_note, in_wave, in_exclusive, in_nothing, in_control}
 
--- FAULTS, as the code finds them
+-- CHECKS, as the code makes them: `z` is what a check says
 
-module _ {A : Type 0} (z : ℕ) where
-  pub fault_yes : (b : Bool) (x y : Checked A) → b ≡ true → z ≡ fault_in x → z ≡ fault_in (when b then x else y)
-  unfolding when◌then◌else◌
-  fault_yes b x y h e = rw h e
-
-  pub fault_no : (b : Bool) (x y : Checked A) → b ≡ false → z ≡ fault_in y → z ≡ fault_in (when b then x else y)
-  unfolding when◌then◌else◌
-  fault_no b x y h e = rw h e
-
-pub ruleset tested_faults = (fault_yes, fault_no)
-
-module _ (source : List ℕ) (event : Event) (z : ℕ) where
-  pub fault_nop : event ≡ Nop → z ≡ 0 → z ≡ fault_in (event_given source event)
-  unfolding event_given fault_in
-  fault_nop p h = rw p h
-
-  pub fault_note : (channel key gate : ℕ) → event ≡ Note channel key gate → (allowed : Bool) → allowed ≡ ((key ≤? 63) and is_note (key % 16))
-      → z ≡ fault_in (sound_given allowed gate) → z ≡ fault_in (event_given source event)
+module _ (source : List ℕ) (event : Event) (z : Checked (Unit {0})) where
+  pub check_nop : event ≡ Nop → z ≡ passed → z ≡ event_given source event
   unfolding event_given
-  fault_note channel key gate p allowed a h = rw (p, ← a) h
+  check_nop p h = rw p h
 
-  pub fault_wave : (channel number gate : ℕ) → event ≡ Wave channel number gate → (allowed : Bool) → allowed ≡ is_wave number
-      → z ≡ fault_in (sound_given allowed gate) → z ≡ fault_in (event_given source event)
+  pub check_note : (channel key gate : ℕ) → event ≡ Note channel key gate → (allowed : Bool) → allowed ≡ ((key ≤? 63) and is_note (key % 16))
+      → z ≡ sound_given allowed gate → z ≡ event_given source event
   unfolding event_given
-  fault_wave channel number gate p allowed a h = rw (p, ← a) h
+  check_note channel key gate p allowed a h = rw (p, ← a) h
 
-  pub fault_control : (kind channel value : ℕ) → event ≡ Control kind channel value → (fits : Bool) → fits ≡ value_fits kind value
-      → z ≡ fault_in (when fits then passed else refused 23 0) → z ≡ fault_in (event_given source event)
+  pub check_wave : (channel number gate : ℕ) → event ≡ Wave channel number gate → (allowed : Bool) → allowed ≡ is_wave number
+      → z ≡ sound_given allowed gate → z ≡ event_given source event
   unfolding event_given
-  fault_control kind channel value p fits a h = rw (p, ← a) h
+  check_wave channel number gate p allowed a h = rw (p, ← a) h
 
-  pub fault_exclusive : (place size : ℕ) → event ≡ Exclusive place size → (fits : Bool) → fits ≡ exclusive_fits source place size
-      → z ≡ fault_in (when fits then passed else refused 23 0) → z ≡ fault_in (event_given source event)
+  pub check_control : (kind channel value : ℕ) → event ≡ Control kind channel value → (fits : Bool) → fits ≡ value_fits kind value
+      → z ≡ (when fits then passed else refused 23 0) → z ≡ event_given source event
   unfolding event_given
-  fault_exclusive place size p fits a h = rw (p, ← a) h
+  check_control kind channel value p fits a h = rw (p, ← a) h
 
-pub ruleset event_faults = (fault_nop, fault_note, fault_wave, fault_control, fault_exclusive)
+  pub check_exclusive : (place size : ℕ) → event ≡ Exclusive place size → (fits : Bool) → fits ≡ exclusive_fits source place size
+      → z ≡ (when fits then passed else refused 23 0) → z ≡ event_given source event
+  unfolding event_given
+  check_exclusive place size p fits a h = rw (p, ← a) h
 
--- a refusal has a number over 0
-abbrev pub Numbered : {A : Type 0} → Checked A → Type 0
-Numbered (fine a) = Unit
-Numbered (refused number place) = 0 < number
+pub ruleset event_checks = (check_nop, check_note, check_wave, check_control, check_exclusive)
 
-fits_numbered : {A : Type 0} (b : Bool) (a : A) → Numbered (when b then fine a else refused 23 0)
-fits_numbered b a = if_all Numbered b _ _ (λ h. tt) (λ h. omega arith)
+-- what fits passes, whatever it is
+pub fits_passed : {A : Type 0} (b : Bool) (a : A) → (when b then passed else refused 23 0) ≡ checked (when b then Ok a else refused 23 0)
+unfolding when◌then◌else◌ ◌>>◌
+fits_passed true a = refl
+fits_passed false a = refl
 
-fault_numbered : {A : Type 0} (b : Bool) (n : ℕ) (o : Checked A) → 0 < n → Numbered o → Numbered (when b then refused n 0 else o)
-fault_numbered b n o some rest = if_all Numbered b _ _ (λ h. some) (λ h. rest)
+module _ (source : List ℕ) (word : ℕ) (event : Event) (said : event ≡ event_in word) (first : Checked (Unit {0})) (is : first ≡ event_given source event)
+    (z : Checked (Unit {0})) (duration : ℕ) where
+  pub word_refused : (why : Refusal) → first ≡ Err why → z ≡ Err why → z ≡ checked (word_given source duration word)
+  unfolding word_given ◌>>◌
+  word_refused why e h = rw (← said, ← is, e) h
 
-pub then_numbered : {A B : Type 0} (o : Checked A) (rest : Checked B) → Numbered o → Numbered rest → Numbered (o >> rest)
-unfolding ◌>>◌
-then_numbered (fine a) rest h k = k
-then_numbered (refused number place) rest h k = h
-
-sound_numbered : (allowed : Bool) (gate : ℕ) → Numbered (sound_given allowed gate)
-unfolding sound_given
-sound_numbered allowed gate = fault_numbered _ 21 _ (omega arith) (fault_numbered _ 21 _ (omega arith) (fault_numbered _ 23 _ (omega arith) tt))
-
-pub event_numbered : (source : List ℕ) (event : Event) → Numbered (event_given source event)
-unfolding event_given
-event_numbered source Nop = tt
-event_numbered source (Note channel key gate) = sound_numbered _ gate
-event_numbered source (Wave channel number gate) = sound_numbered _ gate
-event_numbered source (Control kind channel value) = fits_numbered _ tt
-event_numbered source (Exclusive place size) = fits_numbered _ tt
-
-word_numbered : (source : List ℕ) (duration word : ℕ) → Numbered (word_given source duration word)
-unfolding word_given
-word_numbered source duration word = then_numbered _ _ (event_numbered source (event_in word)) (fits_numbered _ _)
-
-pub item_numbered : (voice : Voice) (source : List ℕ) (duration word : ℕ) → Numbered (item_given voice source duration word)
-unfolding item_given
-item_numbered voice source duration word =
-    then_numbered _ _ (fault_numbered _ 23 _ (omega arith) tt)
-    (then_numbered _ _ (if_all Numbered _ _ _ (λ h. tt) (λ h. omega arith))
-    (if_all Numbered _ _ _ (λ h. word_numbered source duration word) (λ h. fits_numbered _ _)))
-
--- what fits has no fault, whatever it is
-pub fits_fault : {A : Type 0} (fits same : Bool) (a : A) (z : ℕ) → fits ≡ same → z ≡ fault_in (when fits then passed else refused 23 0)
-    → z ≡ fault_in (when same then fine a else refused 23 0)
-unfolding when◌then◌else◌ fault_in
-fits_fault true true a z e q = q
-fits_fault true false a z e q = absurd (false≢true (sym e))
-fits_fault false true a z e q = absurd (false≢true e)
-fits_fault false false a z e q = q
-
--- one check, and then another
-module _ {A B : Type 0} (rest : Checked B) where
-  pub then_fault : (o : Checked A) (fault : ℕ) → fault ≡ fault_in o → (fault ≡ 0 → ⊥) → fault ≡ fault_in (o >> rest)
-  unfolding fault_in ◌>>◌
-  then_fault (fine a) fault e h = absurd (h e)
-  then_fault (refused number place) fault e h = e
-
-  then_rest : (o : Checked A) (fault z : ℕ) → Numbered o → fault ≡ fault_in o → fault ≡ 0 → z ≡ fault_in rest → z ≡ fault_in (o >> rest)
-  unfolding fault_in ◌>>◌
-  then_rest (fine a) fault z k e h r = r
-  then_rest (refused number place) fault z k e h r = absurd (omega arith)
-
-module _ (source : List ℕ) (duration word : ℕ) (event : Event) (said : event ≡ event_in word) (fault : ℕ) (is : fault ≡ fault_in (event_given source event)) where
-  pub word_faulty : (fault ≡ 0 → ⊥) → fault ≡ fault_in (word_given source duration word)
-  unfolding word_given
-  word_faulty h = then_fault _ (event_given source (event_in word)) fault (is ∙ ap (λ e. fault_in (event_given source e)) said) h
-
-  pub word_exact : (exact : Bool) (z : ℕ) → fault ≡ 0 → exact ≡ (event_word (event_in word) ≡? word) → z ≡ fault_in (when exact then passed else refused 23 0)
-      → z ≡ fault_in (word_given source duration word)
-  unfolding word_given
-  word_exact exact z h e q =
-      then_rest _ (event_given source (event_in word)) fault z (event_numbered source (event_in word)) (is ∙ ap (λ e. fault_in (event_given source e)) said) h
-      (fits_fault exact (event_word (event_in word) ≡? word) _ z e q)
-
-pub ruleset word_faults = (word_faulty, word_exact)
+  pub word_exact : first ≡ passed → (exact : Bool) → exact ≡ (event_word (event_in word) ≡? word) → z ≡ (when exact then passed else refused 23 0)
+      → z ≡ checked (word_given source duration word)
+  unfolding word_given ◌>>◌
+  word_exact e exact q h =
+      rw (← said, ← is, e) (h ∙ fits_passed exact (timed duration (content_of source event)) ∙ rw (q, ← said))
 
 -- the whole item
 module _ (voice : Voice) (source : List ℕ) (duration word : ℕ) where
-  pub item_long : 16511 < duration → 23 ≡ fault_in (item_given voice source duration word)
-  unfolding item_given when◌then◌else◌ ◌or◌ ◌>>◌ fault_in
+  pub item_long : 16511 < duration → refused 23 0 ≡ checked (item_given voice source duration word)
+  unfolding item_given when◌then◌else◌ ◌or◌ ◌>>◌
   item_long h = simp lt-ltb
 
   module _ (short : duration ≤ 16511) where
-    pub mark_lasts : kind_in word ≡ 16 → (duration ≡ 0 → ⊥) → 23 ≡ fault_in (item_given voice source duration word)
-    unfolding item_given when◌then◌else◌ ◌or◌ ◌and◌ ◌>>◌ fault_in
+    pub mark_lasts : kind_in word ≡ 16 → (duration ≡ 0 → ⊥) → refused 23 0 ≡ checked (item_given voice source duration word)
+    unfolding item_given when◌then◌else◌ ◌or◌ ◌and◌ ◌>>◌
     mark_lasts k h = simp (le-ltb, k, ne_eqb)
 
-    pub mark_exact : (z : ℕ) → kind_in word ≡ 16 → duration ≡ 0 → z ≡ fault_in (when word ≡? mark_word then passed else refused 23 0)
-        → z ≡ fault_in (item_given voice source duration word)
+    pub mark_exact : (z : Checked (Unit {0})) → kind_in word ≡ 16 → duration ≡ 0 → z ≡ (when word ≡? mark_word then passed else refused 23 0)
+        → z ≡ checked (item_given voice source duration word)
     unfolding item_given when◌then◌else◌ ◌or◌ ◌and◌ ◌>>◌ is_kind
     mark_exact z k h q = go voice
       where
-        go : (v : Voice) → z ≡ fault_in (item_given v source duration word)
-        go Score = simp (k, h) (fits_fault (word ≡? mark_word) (word ≡? mark_word) _ z refl q)
-        go Pcm = simp (k, h) (fits_fault (word ≡? mark_word) (word ≡? mark_word) _ z refl q)
+        go : (v : Voice) → z ≡ checked (item_given v source duration word)
+        go Score = simp (k, h) (q ∙ fits_passed {A = Item Content} (word ≡? mark_word) end_mark)
+        go Pcm = simp (k, h) (q ∙ fits_passed {A = Item Content} (word ≡? mark_word) end_mark)
 
     module _ (other : kind_in word ≡ 16 → ⊥) (known : Bool) (is : known ≡ is_kind voice (kind_in word)) where
-      pub item_kind : not known ≡ true → 22 ≡ fault_in (item_given voice source duration word)
-      unfolding item_given when◌then◌else◌ ◌or◌ ◌and◌ ◌>>◌ fault_in
+      pub item_kind : not known ≡ true → refused 22 0 ≡ checked (item_given voice source duration word)
+      unfolding item_given when◌then◌else◌ ◌or◌ ◌and◌ ◌>>◌
       item_kind h = let off = flag_off is h in simp (le-ltb, ne_eqb, off)
 
-      pub item_word : (z : ℕ) → not known ≡ false → z ≡ fault_in (word_given source duration word) → z ≡ fault_in (item_given voice source duration word)
+      pub item_word : (z : Checked (Unit {0})) → not known ≡ false → z ≡ checked (word_given source duration word)
+          → z ≡ checked (item_given voice source duration word)
       unfolding item_given when◌then◌else◌ ◌or◌ ◌and◌ ◌>>◌
       item_word z h q = let on = flag_on is h in simp (le-ltb, ne_eqb, on) q
 
-pub ruleset item_faults = (item_long, mark_lasts, mark_exact, item_kind, item_word)
+pub ruleset item_checks = (item_long, mark_lasts, mark_exact, item_kind, item_word)
+
+-- a refusal has a number over 0
+abbrev pub Numbered : {A : Type 0} → Checked A → Type 0
+Numbered (Ok a) = Unit
+Numbered (Err why) = 0 < why.number
+
+pub then_numbered : {A B : Type 0} (o : Checked A) (rest : Checked B) → Numbered o → Numbered rest → Numbered (o >> rest)
+unfolding ◌>>◌
+then_numbered (Ok a) rest h k = k
+then_numbered (Err why) rest h k = h
 
 -- WHAT AN ITEM IS that has no fault: an end mark, or a duration and an event that can be written
 
@@ -187,7 +133,7 @@ pub record GivenEvent (voice : Voice) (source : List ℕ) (duration word : ℕ) 
   pub is : item ≡ timed duration (content_of source (event_in word))
 
 -- a test that gives something or refuses
-given_if : {A : Type 0} (b : Bool) (a x : A) (number place : ℕ) → (when b then fine a else refused number place) ≡ fine x → (b ≡ true) × (x ≡ a)
+given_if : {A : Type 0} (b : Bool) (a x : A) (number place : ℕ) → (when b then Ok a else refused number place) ≡ Ok x → (b ≡ true) × (x ≡ a)
 unfolding when◌then◌else◌
 given_if true a x number place e = (refl, cc)
 given_if false a x number place e = let z : ◌≡◌ {A = ℕ} 0 1 = cc in absurd (omega arith)
@@ -276,9 +222,9 @@ event_fits_lem voice source word other known h =
 
 module _ (voice : Voice) (source : List ℕ) (duration word : ℕ) (item : Item Content) where
   abbrev rest : Checked (Item Content)
-  rest = when not (kind_in word ≡? 16) then word_given source duration word else when word ≡? mark_word then fine end_mark else refused 23 0
+  rest = when not (kind_in word ≡? 16) then word_given source duration word else when word ≡? mark_word then Ok end_mark else refused 23 0
 
-  given_mark : (kind_in word ≡? 16) ≡ true → ((kind_in word ≡? 16) and not (duration ≡? 0)) ≡ false → rest ≡ fine item → GivenMark duration word item
+  given_mark : (kind_in word ≡? 16) ≡ true → ((kind_in word ≡? 16) and not (duration ≡? 0)) ≡ false → rest ≡ Ok item → GivenMark duration word item
   unfolding when◌then◌else◌ ◌and◌
   given_mark k timeless e =
       let zero_test = simp k at timeless in
@@ -290,7 +236,7 @@ module _ (voice : Voice) (source : List ℕ) (duration word : ℕ) (item : Item 
         is = g.1;
       }
 
-  given_event : duration ≤ 16511 → (kind_in word ≡? 16) ≡ false → is_kind voice (kind_in word) ≡ true → rest ≡ fine item → GivenEvent voice source duration word item
+  given_event : duration ≤ 16511 → (kind_in word ≡? 16) ≡ false → is_kind voice (kind_in word) ≡ true → rest ≡ Ok item → GivenEvent voice source duration word item
   unfolding when◌then◌else◌ word_given
   given_event short k known e =
       let a = then_fine _ _ item (simp k at e) in
@@ -298,7 +244,7 @@ module _ (voice : Voice) (source : List ℕ) (duration word : ℕ) (item : Item 
       let other = eqb-false (kind_in word) 16 k in
       record { kind = other; short = short; fits = event_fits_lem voice source word other known a.0; exact = eqb-true _ word g.0; is = g.1 }
 
-pub given_so : (voice : Voice) (source : List ℕ) (duration word : ℕ) (item : Item Content) → item_given voice source duration word ≡ fine item
+pub given_so : (voice : Voice) (source : List ℕ) (duration word : ℕ) (item : Item Content) → item_given voice source duration word ≡ Ok item
     → GivenMark duration word item ⊎ GivenEvent voice source duration word item
 unfolding item_given word_given
 given_so voice source duration word item e =
@@ -326,7 +272,7 @@ module _ (duration word : ℕ) where
 pub ruleset given_sizes = (size_mark, size_event)
 
 module _ (voice : Voice) (source : List ℕ) (duration word : ℕ) (there : is_fine (item_given voice source duration word) ≡ true) where
-  the_item : (item : Item Content) × (item_given voice source duration word ≡ fine item)
+  the_item : (item : Item Content) × (item_given voice source duration word ≡ Ok item)
   the_item = fine_some _ there
 
   so : GivenMark duration word the_item.0 ⊎ GivenEvent voice source duration word the_item.0
@@ -376,9 +322,6 @@ module _ (voice : Voice) (source : List ℕ) (duration word : ℕ) (there : is_f
         pub given_wrote : (m : List ℕ) → m ≡ sets l at (timed_bytes source duration event) → m ≡ sets l at (given_bytes (item_given voice source duration word))
         given_wrote m h = rw event_bytes h
 
-    pub given_first : (l : List ℕ) (at : ℕ) → at + length (given_bytes (item_given voice source duration word)) ≤ length l → at + length (duration_bytes duration) ≤ length l
-    given_first l at h = first_room source duration (event_in word) l at (given_room (event_in word) refl l at h)
-
   pub given_length : length (given_bytes (item_given voice source duration word)) ≡ given_size duration word
   unfolding given_size when◌then◌else◌
   given_length =
@@ -391,4 +334,4 @@ module _ (voice : Voice) (source : List ℕ) (duration word : ℕ) (there : is_f
             ∙ simp ne_eqb
       ]
 
-pub ruleset given_parts = (mark_room, mark_next, mark_wrote, given_short, given_fits, given_first, given_room, given_next, given_wrote)
+pub ruleset given_parts = (mark_room, mark_next, mark_wrote, given_short, given_fits, given_room, given_next, given_wrote)

@@ -14,8 +14,9 @@ use Rattle.model.specs.Content.{content_of, content_bytes}
 use Rattle.model.specs.Writing.{event_fits, timed_bytes, put_answer, memory_after_put, put_memory}
 use Rattle.model.specs.declared.Voice.{Voice}
 use Rattle.model.specs.declared.Event.{Event}
-use Rattle.model.specs.declared.Put.{Put}
-use Rattle.model.specs.declared.Put.TheVariants.{Done, Full, Unfit}
+use Rattle.std.specs.Prelude.{Result, Ok, Err}
+use Rattle.model.specs.declared.Unwritten.{Unwritten}
+use Rattle.model.specs.declared.Unwritten.TheVariants.{Full, Unfit}
 use Rattle.model.proofs.Tests.{flag_on, flag_off}
 use Rattle.model.proofs.Stores.{sets_append}
 use Rattle.writing.specs.Parts.{event_size}
@@ -50,27 +51,27 @@ module _ (s : List ℕ) (duration : ℕ) (event : Event) (at middle : ℕ) (betw
 pub ruleset parts = (first_room, second_room, item_next, item_wrote)
 
 -- memory by the answer
-module _ (l : List ℕ) (at : ℕ) (bytes : List ℕ) (answer : Put) where
-  memory_done : (m : List ℕ) (next : ℕ) → Done next ≡ answer → m ≡ sets l at bytes → m ≡ memory_after_put l at bytes answer
+module _ (l : List ℕ) (at : ℕ) (bytes : List ℕ) (answer : Result ℕ Unwritten) where
+  memory_done : (m : List ℕ) (next : ℕ) → Ok next ≡ answer → m ≡ sets l at bytes → m ≡ memory_after_put l at bytes answer
   unfolding memory_after_put
   memory_done m next p h = rw (← p) h
 
-  pub memory_full : Full ≡ answer → l ≡ memory_after_put l at bytes answer
+  pub memory_full : (Err Full) ≡ answer → l ≡ memory_after_put l at bytes answer
   unfolding memory_after_put
   memory_full p = rw (← p)
 
-  pub memory_unfit : Unfit ≡ answer → l ≡ memory_after_put l at bytes answer
+  pub memory_unfit : (Err Unfit) ≡ answer → l ≡ memory_after_put l at bytes answer
   unfolding memory_after_put
   memory_unfit p = rw (← p)
 
 -- the answers, from the tests that lead to each: `size` is what the code found, `fit` what it found of the event
 module _ (voice : Voice) (s : List ℕ) (duration : ℕ) (event : Event) (l : List ℕ) (at : ℕ) where
-  pub too_long : 16511 < duration → Unfit ≡ put_answer voice s duration event (length l) at
+  pub too_long : 16511 < duration → Err Unfit ≡ put_answer voice s duration event (length l) at
   unfolding put_answer when◌then◌else◌
   too_long h = simp lt-leb
 
   module _ (lasts : duration ≤ 16511) (fit : Bool) (same : fit ≡ event_fits voice s event) where
-    pub no_event : not fit ≡ true → Unfit ≡ put_answer voice s duration event (length l) at
+    pub no_event : not fit ≡ true → Err Unfit ≡ put_answer voice s duration event (length l) at
     unfolding put_answer when◌then◌else◌
     no_event h = let e = flag_off same h in simp (le-leb, e)
 
@@ -78,7 +79,7 @@ module _ (voice : Voice) (s : List ℕ) (duration : ℕ) (event : Event) (l : Li
       fits : event_fits voice s event ≡ true
       fits = flag_on same holds
 
-      pub past_end : length l < at → Full ≡ put_answer voice s duration event (length l) at
+      pub past_end : length l < at → Err Full ≡ put_answer voice s duration event (length l) at
       unfolding put_answer when◌then◌else◌
       past_end h = let e = fits in simp (le-leb, e)
 
@@ -86,7 +87,7 @@ module _ (voice : Voice) (s : List ℕ) (duration : ℕ) (event : Event) (l : Li
         item_size : size ≡ length (timed_bytes s duration event)
         item_size = sized ∙ ap (λ (n : ℕ). length (duration_bytes duration) + n) (sym (event_length_lem voice s event fits)) ∙ sym (timed_length s duration event)
 
-        pub no_room : length l - at < size → Full ≡ put_answer voice s duration event (length l) at
+        pub no_room : length l - at < size → Err Full ≡ put_answer voice s duration event (length l) at
         unfolding put_answer when◌then◌else◌
         no_room h = let e = fits in simp (le-leb, e, le-ltb, ← item_size)
 
@@ -94,9 +95,9 @@ module _ (voice : Voice) (s : List ℕ) (duration : ℕ) (event : Event) (l : Li
         has_room h = let e = item_size in omega arith
 
         pub all_done : (next : ℕ) → size ≤ length l - at → next ≡ at + length (timed_bytes s duration event)
-            → Done next ≡ put_answer voice s duration event (length l) at
+            → Ok next ≡ put_answer voice s duration event (length l) at
         unfolding put_answer when◌then◌else◌
-        all_done next h p = let e = fits in simp (le-leb, e, le-ltb, ← item_size) (ap Done (p ∙ ap (λ (n : ℕ). at + n) (sym item_size)))
+        all_done next h p = let e = fits in simp (le-leb, e, le-ltb, ← item_size) (ap (λ (n : ℕ). Ok n) (p ∙ ap (λ (n : ℕ). at + n) (sym item_size)))
 
         pub all_written : (m : List ℕ) → size ≤ length l - at → m ≡ sets l at (timed_bytes s duration event) → m ≡ put_memory voice s duration event l at
         unfolding put_memory

@@ -8,20 +8,22 @@ use lib.ListN.{length}
 use native.Mathlib.Decide.{dec_lt}
 use native.Mathlib.Omega.{arith}
 use borrow.Author.Tests.{eq-eqb, ne_eqb, eqb-true, eqb-false, leb-true, le-ltb, lt-ltb}
-use Rattle.model.specs.Words.{when◌then◌else◌, ◌and◌, ◌or◌, ◌<?◌, ◌≤?◌, ◌≡?◌, Checked, Checked.fine, Checked.refused, passed, ◌>>◌}
+use Rattle.model.specs.Words.{when◌then◌else◌, ◌and◌, ◌or◌, ◌<?◌, ◌≤?◌, ◌≡?◌, Checked, passed, ◌>>◌, refused}
+use Rattle.std.specs.Prelude.{Ok, Err}
 use Rattle.model.specs.Duration.{duration_bytes}
 use Rattle.model.specs.Event.{is_note, is_wave}
-use Rattle.model.specs.Item.{Item, is_fine}
-use Rattle.model.specs.Content.{Content}
+use Rattle.model.specs.Item.{Item, Item.timed, is_fine}
+use Rattle.model.specs.Content.{Content, content_of}
 use Rattle.model.specs.Writing.{value_fits, exclusive_fits, kind_in, channel_in, value_in, gate_in, place_in, size_in, event_in, event_word, mark_word, is_kind, sound_given, event_given, word_given, item_given}
+use Rattle.model.specs.declared.Refusal.{Refusal}
 use Rattle.model.specs.declared.Voice.{Voice}
 use Rattle.model.specs.declared.Voice.TheVariants.{Score, Pcm}
 use Rattle.model.specs.declared.Event.{Event}
 use Rattle.model.specs.declared.Event.TheVariants.{Nop, Note, Wave, Control, Exclusive}
 use Rattle.model.proofs.Tests.{by_test, if_true, if_false, and_left, and_right, flag_on, flag_off}
-use Rattle.writing.specs.Parts.{event_size, fault_in, given_bytes, event_length, sound_length, control_length, exclusive_length}
+use Rattle.writing.specs.Parts.{checked, event_size, given_bytes, event_length, sound_length, control_length, exclusive_length}
 use Rattle.writing.proofs.WordCases.{in_note, in_wave, in_exclusive, in_nothing, in_control, exact_note, exact_wave, exact_exclusive, exact_control}
-use Rattle.writing.proofs.GivenItems.{Numbered, event_numbered, item_numbered, item_long, mark_lasts, mark_exact, item_kind, item_word, size_mark, size_event, given_length}
+use Rattle.writing.proofs.GivenItems.{item_long, mark_lasts, mark_exact, item_kind, item_word, size_mark, size_event, given_length}
 
 -- BY KIND
 
@@ -126,29 +128,29 @@ pub ruleset event_lengths = (length_note, length_wave, length_control, length_ex
 
 -- THE WHOLE ITEM: one that is at fault has no bytes
 
-pub fault_none : (o : Checked (Item Content)) (n : ℕ) → n ≡ fault_in o → (n ≡ 0 → ⊥) → 0 ≡ length (given_bytes o)
-unfolding fault_in given_bytes
-fault_none (fine item) n e h = absurd (h e)
-fault_none (refused number place) n e h = refl
+pub refused_none : (o : Checked (Item Content)) (why : Refusal) → Err why ≡ checked o → 0 ≡ length (given_bytes o)
+unfolding given_bytes ◌>>◌
+refused_none (Ok item) why e = let z : ◌≡◌ {A = ℕ} 0 1 = cc in absurd (omega arith)
+refused_none (Err found) why e = refl
 
-pub fault_free : {A : Type 0} (o : Checked A) → Numbered o → 0 ≡ fault_in o → is_fine o ≡ true
-unfolding fault_in is_fine
-fault_free (fine a) k e = refl
-fault_free (refused number place) k e = absurd (omega arith)
+pub passed_fine : {A : Type 0} (o : Checked A) → passed ≡ checked o → is_fine o ≡ true
+unfolding is_fine ◌>>◌
+passed_fine (Ok a) e = refl
+passed_fine (Err why) e = let z : ◌≡◌ {A = ℕ} 0 1 = cc in absurd (omega arith)
 
 module _ (exact : Bool) (item : Item Content) where
-  abbrev then_exact : Checked (Unit {0}) → Checked (Item Content)
-  then_exact o = o >> (when exact then fine item else refused 23 0)
+  abbrev then_exact : Checked (Unit {0}) → Checked (Unit {0})
+  then_exact o = checked (o >> (when exact then Ok item else refused 23 0))
 
-  exact_free : (o : Checked (Unit {0})) → (is_fine o and exact) ≡ true → 0 ≡ fault_in (then_exact o)
-  unfolding fault_in is_fine ◌>>◌ ◌and◌ when◌then◌else◌
-  exact_free (fine a) h = simp h
-  exact_free (refused number place) h = absurd (false≢true h)
+  exact_passed : (o : Checked (Unit {0})) → (is_fine o and exact) ≡ true → passed ≡ then_exact o
+  unfolding is_fine ◌>>◌ ◌and◌ when◌then◌else◌
+  exact_passed (Ok a) h = simp h
+  exact_passed (Err why) h = absurd (false≢true h)
 
-  exact_faulty : (o : Checked (Unit {0})) → Numbered o → (is_fine o and exact) ≡ false → 0 < fault_in (then_exact o)
-  unfolding fault_in is_fine ◌>>◌ ◌and◌ when◌then◌else◌
-  exact_faulty (fine a) k h = simp h (omega arith)
-  exact_faulty (refused number place) k h = k
+  exact_refused : (o : Checked (Unit {0})) → (is_fine o and exact) ≡ false → (why : Refusal) × (Err why ≡ then_exact o)
+  unfolding is_fine ◌>>◌ ◌and◌ when◌then◌else◌
+  exact_refused (Ok a) h = (record { number = 23; place = 0 }, simp h)
+  exact_refused (Err why) h = (why, refl)
 
 size_some : (event : Event) → 0 < event_size event
 unfolding event_size when◌then◌else◌
@@ -159,39 +161,39 @@ size_some (Control kind channel value) = by_test (kind <? 11) (λ h. simp h (ome
 size_some (Exclusive place size) = omega arith
 
 module _ (voice : Voice) (source : List ℕ) (duration word : ℕ) where
-  faulty : (n : ℕ) → n ≡ fault_in (item_given voice source duration word) → (n ≡ 0 → ⊥) → 0 ≡ length (given_bytes (item_given voice source duration word))
-  faulty n = fault_none (item_given voice source duration word) n
+  faulty : (why : Refusal) → Err why ≡ checked (item_given voice source duration word) → 0 ≡ length (given_bytes (item_given voice source duration word))
+  faulty = refused_none (item_given voice source duration word)
 
-  faultless : 0 ≡ fault_in (item_given voice source duration word) → is_fine (item_given voice source duration word) ≡ true
-  faultless = fault_free (item_given voice source duration word) (item_numbered voice source duration word)
+  faultless : passed ≡ checked (item_given voice source duration word) → is_fine (item_given voice source duration word) ≡ true
+  faultless = passed_fine (item_given voice source duration word)
 
   pub length_long : 16511 < duration → 0 ≡ length (given_bytes (item_given voice source duration word))
-  length_long h = faulty 23 (item_long voice source duration word h) (λ e. omega arith)
+  length_long h = faulty _ (item_long voice source duration word h)
 
   module _ (short : duration ≤ 16511) where
     pub length_mark : word ≡ 0x80000000 → duration ≡ 0 → 4 ≡ length (given_bytes (item_given voice source duration word))
-    unfolding fault_in when◌then◌else◌
+    unfolding when◌then◌else◌
     length_mark w h =
         let k : kind_in word ≡ 16 = omega arith in
-        let free = mark_exact voice source duration word short 0 k h (simp (eq-eqb word mark_word w)) in
+        let free = mark_exact voice source duration word short passed k h (simp (eq-eqb word mark_word w)) in
         size_mark duration word k ∙ sym (given_length voice source duration word (faultless free))
 
     pub length_lasting : word ≡ 0x80000000 → (duration ≡ 0 → ⊥) → 0 ≡ length (given_bytes (item_given voice source duration word))
-    length_lasting w h = let k : kind_in word ≡ 16 = omega arith in faulty 23 (mark_lasts voice source duration word short k h) (λ e. omega arith)
+    length_lasting w h = let k : kind_in word ≡ 16 = omega arith in faulty _ (mark_lasts voice source duration word short k h)
 
     module _ (other : word ≡ 0x80000000 → ⊥) where
       stray_mark : kind_in word ≡ 16 → 0 ≡ length (given_bytes (item_given voice source duration word))
-      unfolding fault_in when◌then◌else◌
+      unfolding when◌then◌else◌
       stray_mark k =
           by_test (duration ≡? 0)
-          (λ h. faulty 23 (mark_exact voice source duration word short 23 k (eqb-true duration 0 h) (simp (ne_eqb word mark_word other))) (λ e. omega arith))
-          (λ h. faulty 23 (mark_lasts voice source duration word short k (eqb-false duration 0 h)) (λ e. omega arith))
+          (λ h. faulty _ (mark_exact voice source duration word short (refused 23 0) k (eqb-true duration 0 h) (simp (ne_eqb word mark_word other))))
+          (λ h. faulty _ (mark_lasts voice source duration word short k (eqb-false duration 0 h)))
 
       module _ (known : Bool) (is : known ≡ is_kind voice (kind_in word)) where
         pub length_kind : not known ≡ true → 0 ≡ length (given_bytes (item_given voice source duration word))
         length_kind h =
             by_test (kind_in word ≡? 16) (λ k. stray_mark (eqb-true _ 16 k))
-            (λ k. faulty 22 (item_kind voice source duration word short (eqb-false _ 16 k) known is h) (λ e. omega arith))
+            (λ k. faulty _ (item_kind voice source duration word short (eqb-false _ 16 k) known is h))
 
         pub kind_some : not known ≡ false → 0 < kind_in word
         unfolding is_kind ◌and◌ ◌or◌
@@ -210,8 +212,8 @@ module _ (voice : Voice) (source : List ℕ) (duration word : ℕ) where
               let off : (is_fine (event_given source (event_in word)) and (event_word (event_in word) ≡? word)) ≡ false =
               by_test (is_fine (event_given source (event_in word)) and (event_word (event_in word) ≡? word))
               (λ q. let e = sized ∙ if_true _ (event_size (event_in word)) 0 q in let some = size_some (event_in word) in absurd (omega arith)) (λ q. q) in
-              let over : 0 < fault_in (word_given source duration word) = exact_faulty _ _ (event_given source (event_in word)) (event_numbered source (event_in word)) off in
-              faulty _ (item_word voice source duration word short (eqb-false _ 16 k) known is _ holds refl) (λ e. omega arith))
+              let at_fault = exact_refused (event_word (event_in word) ≡? word) (timed duration (content_of source (event_in word))) (event_given source (event_in word)) off in
+              faulty at_fault.0 (item_word voice source duration word short (eqb-false _ 16 k) known is _ holds at_fault.1))
 
           pub length_some : (more : ℕ) → (size ≡ 0 → ⊥) → more ≡ length (duration_bytes duration) → more + size ≡ length (given_bytes (item_given voice source duration word))
           unfolding event_length word_given event_word
@@ -221,8 +223,8 @@ module _ (voice : Voice) (source : List ℕ) (duration word : ℕ) where
               let exact = eqb-true _ word (and_right (is_fine (event_given source (event_in word))) _ on) in
               let kind : kind_in word ≡ 16 → ⊥ = λ k.
               let e : 0x78000000 ≡ word = ap event_word (sym (in_nothing word (inr (omega arith)) (λ q. omega arith) (λ q. omega arith))) ∙ exact in omega arith in
-              let free = exact_free _ _ (event_given source (event_in word)) on in
-              let there = faultless (item_word voice source duration word short kind known is 0 holds free) in
+              let free = exact_passed (event_word (event_in word) ≡? word) (timed duration (content_of source (event_in word))) (event_given source (event_in word)) on in
+              let there = faultless (item_word voice source duration word short kind known is passed holds free) in
               let all : more + size ≡ length (duration_bytes duration) + event_size (event_in word) =
               ap (λ (n : ℕ). n + size) lasts ∙ ap (λ (n : ℕ). length (duration_bytes duration) + n) (sized ∙ if_true test (event_size (event_in word)) 0 on) in
               size_event duration word kind (event_in word) refl (more + size) all ∙ sym (given_length voice source duration word there)

@@ -1,5 +1,5 @@
 -- Sums that are limited: what more than 65,536 comes to.
-use Prim.Native.Nat.{ℕ, ◌+◌, ◌<◌, ◌≤◌}
+use Prim.Native.Nat.{ℕ, ◌+◌, ◌-◌, ◌^◌, ◌<◌, ◌≤◌, min}
 use mathlib.Core.Path.{◌≡◌, sym, ◌∙◌}
 use native.Mathlib.Omega.{arith}
 use borrow.Author.Tests.{lt-ltb, ltb-true, ltb-false}
@@ -27,16 +27,14 @@ module _ (n : ℕ) where
       ∙ sym (if_true (65536 <? n + more) 65537 _ (lt-ltb 65536 (n + more) (omega arith)))))
       (λ k. rw (if_false (65536 <? n) 65537 n k))
 
-module _ (one other : ℕ) where
-  pub first_limited : 65536 < one → 65537 ≡ limited (one + other)
-  unfolding limited
-  first_limited h = sym (if_true (65536 <? one + other) 65537 _ (lt-ltb 65536 (one + other) (omega arith)))
+-- as the code limits a size, and a sum that stops at the largest number that can be counted
 
-  pub second_limited : 65536 < other → 65537 ≡ limited (one + other)
-  unfolding limited
-  second_limited h = sym (if_true (65536 <? one + other) 65537 _ (lt-ltb 65536 (one + other) (omega arith)))
+pub least_limited : (n : ℕ) → min n 65537 ≡ limited n
+unfolding limited when◌then◌else◌
+least_limited n = by_test (65536 <? n) (λ k. let q = ltb-true 65536 n k in simp k (omega arith)) (λ k. let q = ltb-false 65536 n k in simp k (omega arith))
 
-pub ruleset limits = (first_limited, second_limited)
+pub saturated_limited : (n : ℕ) → limited (min n (2 ^ 64 - 1)) ≡ limited n
+saturated_limited n = sym (least_limited (min n (2 ^ 64 - 1))) ∙ (omega arith) ∙ least_limited n
 
 -- a limited size is over where the size is
 pub limited_over : (n limit : ℕ) → limit ≤ 65536 → limit < limited n → limit < n

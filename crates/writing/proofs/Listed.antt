@@ -1,11 +1,12 @@
 -- The items that a table gives, from an index on.
-use Prim.Native.Nat.{ℕ, suc, ◌+◌, ◌-◌, ◌*◌, ◌<◌, ◌≤◌}
-use mathlib.Core.List.{List, [], ◌∷◌}
+use Prim.Native.Nat.{ℕ, suc, ◌+◌, ◌-◌, ◌*◌, ◌/◌, ◌<◌, ◌≤◌}
+use mathlib.Core.List.{List, [], ◌∷◌, ◌++◌}
 use mathlib.Core.Path.{◌≡◌, sym, ◌∙◌, ap}
-use lib.ListN.{drop}
+use lib.ListN.{length, drop}
 use lib.Seq.{get_or-drop, drop-drop}
 use native.Mathlib.Omega.{arith}
-use Rattle.model.specs.Words.{Checked, Checked.fine, Checked.refused, ◌>>=◌, told_at}
+use Rattle.model.specs.Words.{Checked, ◌>>=◌, told_at}
+use Rattle.std.specs.Prelude.{Ok, Err}
 use Rattle.model.specs.Bytes.{◌!◌}
 use Rattle.model.specs.Item.{Item}
 use Rattle.model.specs.Content.{Content}
@@ -18,16 +19,16 @@ unfoldable pub ahead : ℕ → Checked (Item Content) → Checked (List (Item Co
 ahead index one more = do
   item ← told_at index one
   items ← more
-  fine (item ∷ items)
+  Ok (item ∷ items)
 
-pub told_fine : {A : Type 0} (index : ℕ) (o : Checked A) (a : A) → told_at index o ≡ fine a → o ≡ fine a
+pub told_fine : {A : Type 0} (index : ℕ) (o : Checked A) (a : A) → told_at index o ≡ Ok a → o ≡ Ok a
 unfolding told_at
-told_fine index (fine b) a e = e
-told_fine index (refused number place) a e = let z : ◌≡◌ {A = ℕ} 0 1 = cc in absurd (omega arith)
+told_fine index (Ok b) a e = e
+told_fine index (Err why) a e = let z : ◌≡◌ {A = ℕ} 0 1 = cc in absurd (omega arith)
 
 -- where they are given, each is
-pub ahead_fine : (index : ℕ) (one : Checked (Item Content)) (more : Checked (List (Item Content))) (all : List (Item Content)) → ahead index one more ≡ fine all
-    → (item : Item Content) × (rest : List (Item Content)) × (one ≡ fine item) × (more ≡ fine rest) × (all ≡ item ∷ rest)
+pub ahead_fine : (index : ℕ) (one : Checked (Item Content)) (more : Checked (List (Item Content))) (all : List (Item Content)) → ahead index one more ≡ Ok all
+    → (item : Item Content) × (rest : List (Item Content)) × (one ≡ Ok item) × (more ≡ Ok rest) × (all ≡ item ∷ rest)
 unfolding ahead
 ahead_fine index one more all e =
     let a = bind_fine _ _ all e in
@@ -50,6 +51,21 @@ module _ (voice : Voice) (source numbers : List ℕ) (count i : ℕ) where
       let on : drop 2 (drop (2 * i) numbers) ≡ drop (2 * (i + 1)) numbers = drop-drop 2 (2 * i) numbers ∙ ap (λ (n : ℕ). drop n numbers) further in
       rw (left, first, second, on)
 
-  pub listed_over : count ≤ i → from i ≡ fine []
+  pub listed_over : count ≤ i → from i ≡ Ok []
   unfolding items_from
   listed_over h = let none : count - i ≡ 0 = omega arith in rw none
+
+-- a table that begins with a pair gives an item, and what the rest of it gives
+module _ (voice : Voice) (source : List ℕ) (index : ℕ) where
+  pub listed_pair : (pair behind : List ℕ) → length pair ≡ 2
+      → items_from voice source (length (pair ++ behind) / 2) index (pair ++ behind)
+      ≡ ahead index (item_given voice source (pair ! 0) (pair ! 1)) (items_from voice source (length behind / 2) (index + 1) behind)
+  unfolding items_from ahead
+  listed_pair [] behind h = absurd (omega arith)
+  listed_pair (a ∷ []) behind h = absurd (omega arith)
+  listed_pair (a ∷ b ∷ []) behind h = let one : suc (suc (length behind)) / 2 ≡ suc (length behind / 2) = omega arith in rw one
+  listed_pair (a ∷ b ∷ c ∷ more) behind h = absurd (omega arith)
+
+  pub listed_none : (behind : List ℕ) → length behind < 2 → items_from voice source (length behind / 2) index behind ≡ Ok []
+  unfolding items_from
+  listed_none behind h = let none : length behind / 2 ≡ 0 = omega arith in rw none

@@ -15,8 +15,9 @@ use Rattle.model.specs.Content.{Content, content_of, handy_phone}
 use Rattle.model.specs.Writing.{event_fits, item_fits, timed_bytes, put_answer, memory_after_put, put_memory}
 use Rattle.model.specs.declared.Voice.{Voice}
 use Rattle.model.specs.declared.Event.{Event}
-use Rattle.model.specs.declared.Put.{Put}
-use Rattle.model.specs.declared.Put.TheVariants.{Done, Full, Unfit}
+use Rattle.std.specs.Prelude.{Result, Ok, Err}
+use Rattle.model.specs.declared.Unwritten.{Unwritten}
+use Rattle.model.specs.declared.Unwritten.TheVariants.{Full, Unfit}
 use Rattle.model.proofs.Tests.{if_all, both_true}
 use Rattle.writing.proofs.ContentFits.{HasBytes, content_fits_lem}
 use Rattle.writing.proofs.ReadBack.{ReadsTimed, Reads, written_reads}
@@ -34,13 +35,13 @@ stored_reads voice l at what fits room =
 
 module _ (voice : Voice) (source : List ℕ) (value : ℕ) (event : Event) (narrow : HasBytes event) (l : List ℕ) (at : ℕ) where
   -- what is told by an answer, if it is that all was done
-  abbrev Told : Put → Type 0
-  Told (Done next) = (next ≡ at + length (timed_bytes source value event)) × ReadsTimed voice (memory_after_put l at (timed_bytes source value event) (Done next)) at value (content_of source event)
-  Told Full = Unit
-  Told Unfit = Unit
+  abbrev Told : Result ℕ Unwritten → Type 0
+  Told (Ok next) = (next ≡ at + length (timed_bytes source value event)) × ReadsTimed voice (memory_after_put l at (timed_bytes source value event) (Ok next)) at value (content_of source event)
+  Told (Err Full) = Unit
+  Told (Err Unfit) = Unit
 
   done_told : value ≤ 16511 → event_fits voice source event ≡ true → at ≤ length l → length (timed_bytes source value event) ≤ length l - at
-      → Told (Done (at + length (timed_bytes source value event)))
+      → Told (Ok (at + length (timed_bytes source value event)))
   unfolding timed_bytes memory_after_put item_fits
   done_told h fits within room = (
     refl,
@@ -59,7 +60,7 @@ module _ (voice : Voice) (source : List ℕ) (value : ℕ) (event : Event) (narr
       (λ c. if_all Told (length l - at <? size) _ _ (λ d. tt)
       (λ d. done_told (leb-true value 16511 (not-false (value ≤? 16511) a)) (not-false (event_fits voice source event) b) (ltb-false (length l) at c) (ltb-false (length l - at) size d)))))
 
-  module _ (next : ℕ) (done : put_answer voice source value event (length l) at ≡ Done next) where
+  module _ (next : ℕ) (done : put_answer voice source value event (length l) at ≡ Ok next) where
     pub put_next : next ≡ at + length (timed_bytes source value event)
     put_next = (subst Told done answer_told).0
 

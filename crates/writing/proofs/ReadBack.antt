@@ -16,7 +16,8 @@ use Rattle.model.specs.Content.{Content, content_of, content_bytes, handy_phone}
 use Rattle.model.specs.Writing.{item_fits}
 use Rattle.model.specs.declared.Voice.{Voice}
 use Rattle.model.specs.declared.Event.{Event}
-use Rattle.model.specs.declared.ReadItem.TheVariants as item
+use Rattle.std.specs.Prelude.{Ok}
+use Rattle.model.specs.declared.ReadItem.TheVariants.{Timed, EndMark}
 use Rattle.model.proofs.Tests.{and_left, and_right, if_false}
 use Rattle.writing.proofs.Stands.{Stands, stands_first, stands_second, stands_between}
 use Rattle.writing.proofs.EventBack.{duration_back, event_from, event_back, content_back}
@@ -25,12 +26,12 @@ use Rattle.writing.proofs.NoMark.{no_mark}
 -- The reader at a place gives an item: its duration, an event of its content, the place after its bytes.
 pub record ReadsTimed (voice : Voice) (s : List ℕ) (at value : ℕ) (content : Content) : Type 0 where
   pub read : Event
-  pub given : item_at voice s at ≡ item.Timed value read (at + length (item_bytes handy_phone (timed value content)))
+  pub given : item_at voice s at ≡ Ok (Timed value read (at + length (item_bytes handy_phone (timed value content))))
   pub same : content_of s read ≡ content
 
 abbrev pub Reads : Voice → List ℕ → ℕ → Item Content → Type 0
 Reads voice s at (timed value content) = ReadsTimed voice s at value content
-Reads voice s at end_mark = item_at voice s at ≡ item.EndMark (at + length (item_bytes handy_phone end_mark))
+Reads voice s at end_mark = item_at voice s at ≡ Ok (EndMark (at + length (item_bytes handy_phone end_mark)))
 
 timed_back : (voice : Voice) (s : List ℕ) (at value : ℕ) (content : Content) → item_fits voice (timed value content) ≡ true
     → Stands s at (item_bytes handy_phone (timed value content)) → ReadsTimed voice s at value content
@@ -47,11 +48,11 @@ timed_back voice s at value content h st =
     record {
       read = event_from (at + length (duration_bytes value)) content;
       given = if_false (is_end_mark s at) _ _ (no_mark s at voice value content fits first second)
-          ∙ simp (d, e) (ap (item.Timed value (event_from (at + length (duration_bytes value)) content)) place);
+          ∙ simp (d, e) (ap (λ (n : ℕ). Ok (Timed value (event_from (at + length (duration_bytes value)) content) n)) place);
       same = content_back s (at + length (duration_bytes value)) content second;
     }
 
-mark_back : (voice : Voice) (s : List ℕ) (at : ℕ) → Stands s at (0 ∷ 0 ∷ 0 ∷ 0 ∷ []) → item_at voice s at ≡ item.EndMark (at + 4)
+mark_back : (voice : Voice) (s : List ℕ) (at : ℕ) → Stands s at (0 ∷ 0 ∷ 0 ∷ 0 ∷ []) → item_at voice s at ≡ Ok (EndMark (at + 4))
 unfolding item_at is_end_mark when◌then◌else◌ ◌and◌
 mark_back voice s at st =
     let e = st.1 in

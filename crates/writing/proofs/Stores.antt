@@ -1,4 +1,4 @@
--- A stretch copied into lent memory: what is still to be stored makes the whole.
+-- What stores leave of lent memory.
 use Prim.Native.Nat.{ℕ, suc, ◌+◌, ◌-◌, ◌<◌, ◌≤◌}
 use mathlib.Core.List.{List}
 use mathlib.Core.Path.{◌≡◌, refl, sym, ◌∙◌, ap}
@@ -13,6 +13,7 @@ use Rattle.model.proofs.Parts.{part_cons}
 pub kept_set : (m l : List ℕ) (at byte : ℕ) → length m ≡ length (set l at byte) → length m ≡ length l
 kept_set m l at byte h = h ∙ length-set l at byte
 
+-- a stretch of a source, as it is copied: what is still to be stored makes the whole
 pub record Copied (l s out : List ℕ) (at from count i : ℕ) : Type 0 where
   pub in_range : i ≤ count
   pub same : length out ≡ length l

@@ -7,7 +7,7 @@ use mathlib.Core.Path.{◌≡◌, refl, sym, ◌∙◌, ap, subst}
 use lib.ListN.{length, length-append}
 use native.Mathlib.Omega.{arith}
 use borrow.Author.Tests.{le-leb, leb-true, eqb-true}
-use Rattle.model.specs.Words.{◌≤?◌, ◌≡?◌}
+use Rattle.model.specs.Words.{◌≤?◌, ◌≡?◌, Checked}
 use Rattle.model.specs.Bytes.{◌!◌, part}
 use Rattle.model.specs.Duration.{duration_at, duration_bytes}
 use Rattle.model.specs.Event.{event_at}
@@ -17,12 +17,10 @@ use Rattle.model.specs.Content.{Content, content_of, content_bytes, handy_phone}
 use Rattle.model.specs.Writing.{item_fits}
 use Rattle.model.specs.declared.Voice.{Voice}
 use Rattle.model.specs.declared.Event.{Event}
-use Rattle.model.specs.declared.ReadDuration.{ReadDuration}
-use Rattle.model.specs.declared.ReadDuration.TheVariants as duration
-use Rattle.model.specs.declared.ReadEvent.{ReadEvent}
-use Rattle.model.specs.declared.ReadEvent.TheVariants as event
+use Rattle.std.specs.Prelude.{Ok, Err}
+use Rattle.model.specs.declared.Read.{Read}
 use Rattle.model.specs.declared.ReadItem.{ReadItem}
-use Rattle.model.specs.declared.ReadItem.TheVariants as item
+use Rattle.model.specs.declared.ReadItem.TheVariants.{Timed, EndMark}
 use Rattle.model.proofs.Tests.{and_left, and_right, if_all, both_true}
 use Rattle.writing.proofs.Durations.{some_bytes}
 use Rattle.writing.proofs.EventStands.{DurationStands, duration_stands, EventStands, event_stands}
@@ -37,10 +35,10 @@ pub record Written (voice : Voice) (s : List ℕ) (at : ℕ) (what : Item Conten
   pub within : next ≤ length s
   pub bytes : item_bytes handy_phone what ≡ part s at (next - at)
 
-abbrev ItemWritten : Voice → List ℕ → ℕ → ReadItem → Type 0
-ItemWritten voice s at (item.Timed value what next) = Written voice s at (timed value (content_of s what)) next
-ItemWritten voice s at (item.EndMark next) = Written voice s at end_mark next
-ItemWritten voice s at (item.Refused number place) = Unit
+abbrev ItemWritten : Voice → List ℕ → ℕ → Checked ReadItem → Type 0
+ItemWritten voice s at (Ok (Timed value what next)) = Written voice s at (timed value (content_of s what)) next
+ItemWritten voice s at (Ok (EndMark next)) = Written voice s at end_mark next
+ItemWritten voice s at (Err why) = Unit
 
 -- bytes that stand there are the part up to the place after them
 stands_written : (voice : Voice) (s : List ℕ) (at : ℕ) (what : Item Content) (next : ℕ) → item_fits voice what ≡ true
@@ -60,23 +58,23 @@ stands_written voice s at what next fits some st ends =
 
 module _ (voice : Voice) (s : List ℕ) (bytes : (k : ℕ) → s ! k < 256) (at : ℕ) where
   with_event_written : (value next : ℕ) → value ≤ 16511 → Stands s at (duration_bytes value) → next ≡ at + length (duration_bytes value)
-      → (e : ReadEvent) → EventStands voice s next e → ItemWritten voice s at (with_event value e)
+      → (e : Checked (Read Event)) → EventStands voice s next e → ItemWritten voice s at (with_event value e)
   unfolding with_event item_fits item_bytes
-  with_event_written value next h st p (event.Is what after) su =
-      let content = content_bytes (content_of s what) in
+  with_event_written value next h st p (Ok read) su =
+      let content = content_bytes (content_of s read.what) in
       let n = length-append (duration_bytes value) content in
       let q = su.2 in
       let some = some_bytes value in
-      stands_written voice s at (timed value (content_of s what)) after (both_true (value ≤? 16511) _ (le-leb value 16511 h) su.0) (omega arith)
+      stands_written voice s at (timed value (content_of s read.what)) read.next (both_true (value ≤? 16511) _ (le-leb value 16511 h) su.0) (omega arith)
       (stands_both s at (duration_bytes value) content st (subst (λ (k : ℕ). Stands s k content) p su.1))
       (omega arith)
-  with_event_written value next h st p (event.Refused number place) su = tt
+  with_event_written value next h st p (Err why) su = tt
 
-  with_duration_written : (d : ReadDuration) → DurationStands s at d → ItemWritten voice s at (with_duration voice s d)
+  with_duration_written : (d : Checked (Read ℕ)) → DurationStands s at d → ItemWritten voice s at (with_duration voice s d)
   unfolding with_duration
-  with_duration_written (duration.Is value next) st =
-      with_event_written value next st.0 st.1 st.2 (event_at voice s next) (event_stands s bytes voice next)
-  with_duration_written (duration.Refused number place) st = tt
+  with_duration_written (Ok read) st =
+      with_event_written read.what read.next st.0 st.1 st.2 (event_at voice s read.next) (event_stands s bytes voice read.next)
+  with_duration_written (Err why) st = tt
 
   mark_written : is_end_mark s at ≡ true → Written voice s at end_mark (at + 4)
   unfolding is_end_mark item_fits item_bytes
@@ -103,9 +101,9 @@ module _ (voice : Voice) (s : List ℕ) (bytes : (k : ℕ) → s ! k < 256) (at 
       if_all (ItemWritten voice s at) (is_end_mark s at) _ _ mark_written (λ h. with_duration_written (duration_at s at) (duration_stands s bytes at))
 
   -- an item that was read, written again
-  pub timed_writes : (value : ℕ) (what : Event) (next : ℕ) → item_at voice s at ≡ item.Timed value what next
+  pub timed_writes : (value : ℕ) (what : Event) (next : ℕ) → item_at voice s at ≡ Ok (Timed value what next)
       → Written voice s at (timed value (content_of s what)) next
   timed_writes value what next p = subst (ItemWritten voice s at) p item_written
 
-  pub mark_writes : (next : ℕ) → item_at voice s at ≡ item.EndMark next → Written voice s at end_mark next
+  pub mark_writes : (next : ℕ) → item_at voice s at ≡ Ok (EndMark next) → Written voice s at end_mark next
   mark_writes next p = subst (ItemWritten voice s at) p item_written

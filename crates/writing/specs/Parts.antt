@@ -1,7 +1,7 @@
 -- What the writers of an event ask of its numbers, the bytes of each kind of event, and how many bytes an event takes; the same of a
 -- list of items that are given.
-use Rattle.std.specs.Prelude.{ℕ, ◌+◌, ◌-◌, ◌*◌, ◌/◌, ◌%◌, ◌≤◌, ◌<◌, List, [], ◌∷◌, Bool, false, not, ◌≡◌, length, drop}
-use Rattle.model.specs.Words.{when◌then◌else◌, ◌and◌, ◌<?◌, ◌≤?◌, ◌≡?◌, Checked, Checked.fine, Checked.refused}
+use Rattle.std.specs.Prelude.{ℕ, ◌+◌, ◌-◌, ◌*◌, ◌/◌, ◌%◌, ◌≤◌, ◌<◌, List, [], ◌∷◌, Bool, false, not, ◌≡◌, length, drop, Ok, Err}
+use Rattle.model.specs.Words.{when◌then◌else◌, ◌and◌, ◌<?◌, ◌≤?◌, ◌≡?◌, Checked, passed, ◌>>◌}
 use Rattle.model.specs.Bytes.{part}
 use Rattle.model.specs.Duration.{longest_duration, duration_bytes}
 use Rattle.model.specs.Event.{is_note}
@@ -13,8 +13,6 @@ use Rattle.model.specs.declared.Voice.{Voice}
 use Rattle.model.specs.declared.Voice.TheVariants.{Score, Pcm}
 use Rattle.model.specs.declared.Event.{Event}
 use Rattle.model.specs.declared.Event.TheVariants.{Nop, Note, Wave, Control, Exclusive}
-use Rattle.model.specs.declared.Wrote.{Wrote}
-use Rattle.model.specs.declared.Wrote.TheVariants.{Bytes, Refused}
 
 -- the numbers of a note or a wave
 pub record SoundFit (channel low gate : ℕ) : Type 0 where
@@ -45,23 +43,26 @@ event_size (Exclusive place size) = 3 + size
 unfoldable pub limited : ℕ → ℕ
 limited n = when 65536 <? n then 65537 else n
 
--- GIVEN ITEMS: the number of the refusal, 0 for none; the bytes of an item and of a list, none where there is a refusal; how many bytes a duration and a word
--- take that are no fault
+-- GIVEN ITEMS: what a check says, without what it finds; the number of the refusal, 0 for none; the bytes of an item and of a list, none where there is a
+-- refusal; how many bytes a duration and a word take that are no fault
+
+abbrev pub checked : {A : Type 0} → Checked A → Checked (Unit {0})
+checked found = found >> passed
 
 unfoldable pub fault_in : {A : Type 0} → Checked A → ℕ
-fault_in (fine a) = 0
-fault_in (refused number place) = number
+fault_in (Ok a) = 0
+fault_in (Err why) = why.number
 
 unfoldable pub given_size : ℕ → ℕ → ℕ
 given_size duration word = when kind_in word ≡? 16 then 4 else length (duration_bytes duration) + event_size (event_in word)
 
 unfoldable pub given_bytes : Checked (Item Content) → List ℕ
-given_bytes (fine item) = item_bytes handy_phone item
-given_bytes (refused number place) = []
+given_bytes (Ok item) = item_bytes handy_phone item
+given_bytes (Err why) = []
 
 unfoldable pub list_bytes : Checked (List (Item Content)) → List ℕ
-list_bytes (fine items) = bytes_of handy_phone items
-list_bytes (refused number place) = []
+list_bytes (Ok items) = bytes_of handy_phone items
+list_bytes (Err why) = []
 
 -- SHORT NOTES, which most items are: a byte each for duration, note and gate time, told from the two numbers
 
@@ -114,14 +115,14 @@ exclusive_length source word =
     0
 
 -- A LIST, checked and measured
-unfoldable pub size_answer : Checked (List (Item Content)) → Wrote
-size_answer (fine items) = Bytes (limited (length (bytes_of handy_phone items)))
-size_answer (refused number place) = Refused number place
+unfoldable pub size_answer : Checked (List (Item Content)) → Checked ℕ
+size_answer (Ok items) = Ok (limited (length (bytes_of handy_phone items)))
+size_answer (Err why) = Err why
 
 -- the answer where so many bytes stand before these items
-unfoldable pub onto : ℕ → Checked (List (Item Content)) → Wrote
-onto taken (fine items) = Bytes (limited (taken + length (bytes_of handy_phone items)))
-onto taken (refused number place) = Refused number place
+unfoldable pub onto : ℕ → Checked (List (Item Content)) → Checked ℕ
+onto taken (Ok items) = Ok (limited (taken + length (bytes_of handy_phone items)))
+onto taken (Err why) = Err why
 
 -- So many items have no fault and take so many bytes: the items that are left decide.
 pub record CheckedTo (voice : Voice) (source numbers : List ℕ) (index taken : ℕ) : Type 0 where

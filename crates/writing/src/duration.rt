@@ -3,6 +3,7 @@ ghost use Rattle.std.specs.Prelude.{◌≡◌, ◌+◌, ◌≤◌, length};
 ghost use Rattle.std.proofs.lemmas.List.Edits.{sets};
 ghost use Rattle.model.specs.Duration.{duration_bytes};
 
+#[tactic(auto, using(crate::proofs::Durations::sizes))]
 pub fn duration_size(value: u32) -> usize
     ensures { (result ≡ length (duration_bytes value)) × (result ≤ 2) }
 {

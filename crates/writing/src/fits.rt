@@ -5,15 +5,14 @@ ghost use Rattle.model.specs.Writing.{is_gate, note_fits, wave_fits, value_fits,
 use items::{has_kind, is_note, is_value, is_wave};
 use model::{Event, Voice};
 
+#[tactic(auto, using(model::proofs::Tests::tests, model::proofs::Tests::junctions), unfolding(model::specs::Writing::is_gate))]
 fn is_gate(gate: u32) -> bool
     ensures { result ≡ is_gate gate }
 {
-    if gate < 1 {
-        return false;
-    }
-    gate <= 16511
+    1 <= gate && gate <= 16511
 }
 
+#[tactic(auto, using(model::proofs::Tests::tests, model::proofs::Tests::junctions, crate::proofs::Cases::voices))]
 fn note_fits(voice: Voice, channel: u8, key: u8, gate: u32) -> bool
     ensures { result ≡ note_fits voice channel key gate }
 {
@@ -34,6 +33,7 @@ fn note_fits(voice: Voice, channel: u8, key: u8, gate: u32) -> bool
     }
 }
 
+#[tactic(auto, using(model::proofs::Tests::tests, model::proofs::Tests::junctions, crate::proofs::Cases::voices))]
 fn wave_fits(voice: Voice, channel: u8, number: u8, gate: u32) -> bool
     ensures { result ≡ wave_fits voice channel number gate }
 {
@@ -51,18 +51,17 @@ fn wave_fits(voice: Voice, channel: u8, number: u8, gate: u32) -> bool
     }
 }
 
+#[tactic(auto, using(model::proofs::Tests::tests, model::proofs::Tests::junctions), unfolding(model::specs::Writing::value_fits))]
 pub fn value_fits(kind: u8, value: u8) -> bool
     ensures { result ≡ value_fits kind value }
 {
     if kind < 11 {
         return is_value(kind, value);
     }
-    if value < 1 {
-        return false;
-    }
-    value <= 14
+    1 <= value && value <= 14
 }
 
+#[tactic(auto, using(model::proofs::Tests::tests, model::proofs::Tests::junctions), unfolding(model::specs::Writing::control_fits))]
 fn control_fits(voice: Voice, kind: u8, channel: u8, value: u8) -> bool
     ensures { result ≡ control_fits voice kind channel value }
 {
@@ -81,6 +80,7 @@ fn control_fits(voice: Voice, kind: u8, channel: u8, value: u8) -> bool
     value_fits(kind, value)
 }
 
+#[tactic(auto, using(model::proofs::Tests::tests, model::proofs::Tests::junctions, crate::proofs::Cases::sources), unfolding(model::specs::Writing::exclusive_fits))]
 pub fn exclusive_fits(source: &[u8], place: usize, size: u8) -> bool
     ensures { result ≡ exclusive_fits source.now place size }
 {
@@ -97,6 +97,7 @@ pub fn exclusive_fits(source: &[u8], place: usize, size: u8) -> bool
     source[place + 2 + size as usize] == 0xF7
 }
 
+#[tactic(auto, using(crate::proofs::Cases::events))]
 pub fn event_fits(voice: Voice, source: &[u8], event: Event) -> bool
     ensures { result ≡ event_fits voice source.now event }
 {

@@ -1,110 +1,93 @@
 // One item that is given as a duration and a word: what is wrong with it, how many bytes it takes, and its bytes at a place of lent memory.
-ghost use Rattle.std.specs.Prelude.{◌≡◌, true, [], ◌∷◌, ◌+◌, ◌%◌, ◌≤◌, length};
+ghost use Rattle.std.specs.Prelude.{ℕ, ◌≡◌, true, [], ◌∷◌, ◌+◌, ◌%◌, ◌≤◌, length};
 ghost use Rattle.std.proofs.lemmas.List.Edits.{sets};
-ghost use Rattle.model.specs.Words.{when◌then◌else◌, ◌and◌, ◌≤?◌, Checked.refused, passed};
+ghost use Rattle.model.specs.Words.{when◌then◌else◌, ◌and◌, ◌≤?◌, refused, passed};
 ghost use Rattle.model.specs.Event.{is_note};
 ghost use Rattle.model.specs.Item.{is_fine};
 ghost use Rattle.model.specs.Writing.{sound_given, event_given, word_given, item_given};
-ghost use Rattle.writing.specs.Parts.{fault_in, given_size, given_bytes};
+ghost use Rattle.writing.specs.Parts.{checked, given_size, given_bytes};
 
-use super::duration::write_duration;
-use super::event::write_event;
 use super::fits::{exclusive_fits, value_fits};
-use super::item::item_size;
+use super::item::{item_size, write_item};
 use super::short::{is_narrow, write_short};
 use super::word::{event_in, is_exact, is_kind};
 use items::{is_note, is_wave};
-use model::{Event, Voice};
+use model::{Event, Refusal, Voice, refused};
 
-// The number of the refusal, or 0.
-fn sound_fault(allowed: bool, gate: u32) -> u32
-    ensures { result ≡ fault_in (sound_given allowed gate) }
+// A note or a wave that is allowed or not.
+#[tactic(auto, using(model::proofs::Tests::tests, model::proofs::Tests::not_on, model::proofs::Tests::not_off), unfolding(model::specs::Writing::sound_given))]
+fn check_sound(allowed: bool, gate: u32) -> Result<(), Refusal>
+    ensures { result ≡ sound_given allowed gate }
 {
     if !allowed {
-        return 21;
+        return refused(21, 0);
     }
     if gate == 0 {
-        return 21;
+        return refused(21, 0);
     }
     if 16511 < gate {
-        return 23;
+        return refused(23, 0);
     }
-    0
+    Ok(())
 }
 
+#[tactic(auto, using(model::proofs::Tests::tests, model::proofs::Tests::junctions))]
 pub fn is_key(key: u8) -> bool
     ensures { result ≡ ((key ≤? 63) and is_note (key % 16)) }
 {
-    if 63 < key {
-        return false;
-    }
-    is_note(key % 16)
+    key <= 63 && is_note(key % 16)
 }
 
-// 0, or 23 for what does not fit.
-fn unless_fits(fits: bool) -> u32
-    ensures { result ≡ fault_in (when fits then passed else refused 23 0) }
+#[tactic(auto, using(model::proofs::Tests::tests))]
+fn check_fits(fits: bool) -> Result<(), Refusal>
+    ensures { result ≡ (when fits then passed else refused 23 0) }
 {
     if fits {
-        return 0;
+        return Ok(());
     }
-    23
+    refused(23, 0)
 }
 
-fn event_fault(source: &[u8], event: Event) -> u32
-    ensures { result ≡ fault_in (event_given source.now event) }
+fn check_event(source: &[u8], event: Event) -> Result<(), Refusal>
+    ensures { result ≡ event_given source.now event }
 {
     match event {
-        Event::Nop => 0,
-        Event::Note {
-            channel: _,
-            key,
-            gate,
-        } => sound_fault(is_key(key), gate),
-        Event::Wave {
-            channel: _,
-            number,
-            gate,
-        } => sound_fault(is_wave(number), gate),
-        Event::Control {
-            kind,
-            channel: _,
-            value,
-        } => unless_fits(value_fits(kind, value)),
-        Event::Exclusive { place, size } => unless_fits(exclusive_fits(source, place, size)),
+        Event::Nop => Ok(()),
+        Event::Note { key, gate, .. } => check_sound(is_key(key), gate),
+        Event::Wave { number, gate, .. } => check_sound(is_wave(number), gate),
+        Event::Control { kind, value, .. } => check_fits(value_fits(kind, value)),
+        Event::Exclusive { place, size } => check_fits(exclusive_fits(source, place, size)),
     }
 }
 
-fn word_fault(source: &[u8], duration: u32, word: u32) -> u32
-    ensures { result ≡ fault_in (word_given source.now duration word) }
+fn check_word(source: &[u8], word: u32) -> Result<(), Refusal>
+    ensures { (duration : ℕ) → result ≡ checked (word_given source.now duration word) }
 {
-    let fault = event_fault(source, event_in(word));
-    if fault != 0 {
-        return fault;
-    }
-    unless_fits(is_exact(word))
+    check_event(source, event_in(word))?;
+    check_fits(is_exact(word))
 }
 
-pub fn item_fault(voice: Voice, source: &[u8], duration: u32, word: u32) -> u32
-    ensures { result ≡ fault_in (item_given voice source.now duration word) }
+pub fn check_item(voice: Voice, source: &[u8], duration: u32, word: u32) -> Result<(), Refusal>
+    ensures { result ≡ checked (item_given voice source.now duration word) }
 {
     if 16511 < duration {
-        return 23;
+        return refused(23, 0);
     }
     let kind = word / 0x8000000;
     if kind == 16 {
         if duration != 0 {
-            return 23;
+            return refused(23, 0);
         }
-        return unless_fits(word == 0x80000000);
+        return check_fits(word == 0x80000000);
     }
     if !is_kind(voice, kind) {
-        return 22;
+        return refused(22, 0);
     }
-    word_fault(source, duration, word)
+    check_word(source, word)
 }
 
 // How many bytes an item takes that can be written.
+#[tactic(auto, using(crate::proofs::GivenItems::given_sizes))]
 pub fn given_size(duration: u32, word: u32) -> usize
     ensures { (result ≡ given_size duration word) × (result ≤ 260) }
 {
@@ -149,6 +132,5 @@ pub fn write_given(
     if word / 0x8000000 == 16 {
         return write_end_mark(out, at);
     }
-    let middle = write_duration(out, at, duration);
-    write_event(voice, source, event_in(word), out, middle)
+    write_item(voice, source, duration, event_in(word), out, at)
 }

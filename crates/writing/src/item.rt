@@ -8,7 +8,7 @@ ghost use Rattle.writing.specs.Parts.{event_size};
 use super::duration::{duration_size, write_duration};
 use super::event::{event_size, write_event};
 use super::fits::event_fits;
-use model::{Event, Put, Voice};
+use model::{Event, Unwritten, Voice};
 
 // How many bytes an item takes that can be written.
 pub fn item_size(duration: u32, event: Event) -> usize
@@ -43,23 +43,21 @@ pub fn put_item(
     event: Event,
     out: &mut [u8],
     at: usize,
-) -> Put
+) -> Result<usize, Unwritten>
     ensures value { result ≡ put_answer voice source.now duration event (length out.old) at }
     ensures out_after { out.new ≡ put_memory voice source.now duration event out.old at }
 {
     if 16511 < duration {
-        return Put::Unfit;
+        return Err(Unwritten::Unfit);
     }
     if !event_fits(voice, source, event) {
-        return Put::Unfit;
+        return Err(Unwritten::Unfit);
     }
     if out.len() < at {
-        return Put::Full;
+        return Err(Unwritten::Full);
     }
     if out.len() - at < item_size(duration, event) {
-        return Put::Full;
+        return Err(Unwritten::Full);
     }
-    Put::Done {
-        next: write_item(voice, source, duration, event, out, at),
-    }
+    Ok(write_item(voice, source, duration, event, out, at))
 }

@@ -2,23 +2,16 @@
 ghost use Rattle.std.specs.Prelude.{◌≡◌, ◌+◌};
 ghost use Rattle.writing.specs.Parts.{limited};
 
+#[tactic(auto, using(model::proofs::Tests::tests), unfolding(crate::specs::Parts::limited))]
 pub fn within_limit(size: usize) -> usize
     ensures { result ≡ limited size }
 {
-    if 65536 < size {
-        return 65537;
-    }
-    size
+    size.min(65537)
 }
 
+#[tactic(auto, using(crate::proofs::Limits::saturated_limited))]
 pub fn limited_sum(one: usize, other: usize) -> usize
     ensures { result ≡ limited (one + other) }
 {
-    if 65536 < one {
-        return 65537;
-    }
-    if 65536 < other {
-        return 65537;
-    }
-    within_limit(one + other)
+    within_limit(one.saturating_add(other))
 }

@@ -6,42 +6,39 @@ ghost use Rattle.model.specs.Writing.{items_given};
 ghost use Rattle.model.specs.Answer.{write_items_of, write_answer, write_room};
 ghost use Rattle.writing.specs.Parts.{CheckedTo, size_answer, list_bytes};
 
-use super::given::{given_size, item_fault, write_given};
+use super::given::{check_item, given_size, write_given};
 use super::limit::within_limit;
-use model::{Voice, Wrote};
+use model::{Refusal, Voice, refused};
 
 // The first item that is at fault, or how many bytes all of them take, 65,537 standing for more than 65,536. So many items before have no fault, and take so
 // many bytes.
-pub fn check_from(voice: Voice, source: &[u8], items: &[u32], checked: usize, taken: usize) -> Wrote
+pub fn check_from(
+    voice: Voice,
+    source: &[u8],
+    items: &[u32],
+    checked: usize,
+    taken: usize,
+) -> Result<usize, Refusal>
     requires { CheckedTo voice source.now items.now checked taken }
     ensures { result ≡ size_answer (items_given voice source.now items.now) }
 {
     let count = items.len() / 2;
     if count == 0 {
-        return Wrote::Refused {
-            number: 11,
-            place: 0,
-        };
+        return refused(11, 0);
     }
     let mut size = within_limit(taken);
-    let mut i = checked;
-    while i < count {
+    for i in checked..count {
         let duration = items[2 * i];
         let word = items[2 * i + 1];
-        let fault = item_fault(voice, source, duration, word);
-        if fault != 0 {
-            return Wrote::Refused {
-                number: fault,
-                place: i,
-            };
+        if let Err(why) = check_item(voice, source, duration, word) {
+            return refused(why.number, i);
         }
         size = within_limit(size + given_size(duration, word));
-        i += 1;
     }
-    Wrote::Bytes { length: size }
+    Ok(size)
 }
 
-pub fn check_items(voice: Voice, source: &[u8], items: &[u32]) -> Wrote
+pub fn check_items(voice: Voice, source: &[u8], items: &[u32]) -> Result<usize, Refusal>
     ensures { result ≡ size_answer (items_given voice source.now items.now) }
 {
     check_from(voice, source, items, 0, 0)
@@ -54,38 +51,25 @@ pub fn write_list(voice: Voice, source: &[u8], items: &[u32], out: &mut [u8], at
     ensures value_2 { result ≡ at + length (list_bytes (items_given voice source.now items.now)) }
     ensures out_after { out.new ≡ sets out.old at (list_bytes (items_given voice source.now items.now)) }
 {
-    let count = items.len() / 2;
     let mut next = at;
-    let mut i: usize = 0;
-    while i < count {
-        next = write_given(voice, source, items[2 * i], items[2 * i + 1], out, next);
-        i += 1;
+    for item in items.chunks_exact(2) {
+        next = write_given(voice, source, item[0], item[1], out, next);
     }
     next
 }
 
-pub fn write_items(voice: Voice, source: &[u8], items: &[u32], out: &mut [u8]) -> Wrote
+pub fn write_items(
+    voice: Voice,
+    source: &[u8],
+    items: &[u32],
+    out: &mut [u8],
+) -> Result<usize, Refusal>
     ensures value { result ≡ write_answer (write_items_of voice source.now items.now (length out.old)) }
     ensures out_after { out.new ≡ write_room out.old (write_items_of voice source.now items.now (length out.old)) }
 {
-    match check_items(voice, source, items) {
-        Wrote::Refused { number, place } => Wrote::Refused { number, place },
-        Wrote::Bytes { length } => {
-            if 65536 < length {
-                return Wrote::Refused {
-                    number: 24,
-                    place: 0,
-                };
-            }
-            if out.len() < length {
-                return Wrote::Refused {
-                    number: 24,
-                    place: 0,
-                };
-            }
-            Wrote::Bytes {
-                length: write_list(voice, source, items, out, 0),
-            }
-        }
+    let length = check_items(voice, source, items)?;
+    if 65536 < length || out.len() < length {
+        return refused(24, 0);
     }
+    Ok(write_list(voice, source, items, out, 0))
 }

@@ -11,6 +11,7 @@ use items::is_wave;
 use model::Voice;
 
 // A note or a wave that is allowed or not.
+#[tactic(auto, using(crate::proofs::Lengths::sound_sized, model::proofs::Tests::tests), unfolding(crate::specs::Parts::sound_length))]
 fn sound_length(allowed: bool, word: u32) -> usize
     ensures { (result ≡ sound_length allowed word) × (result ≤ 258) }
 {
@@ -30,6 +31,7 @@ fn sound_length(allowed: bool, word: u32) -> usize
     1 + duration_size(gate)
 }
 
+#[tactic(auto, using(crate::proofs::Lengths::control_lengths, model::proofs::Tests::tests), unfolding(crate::specs::Parts::control_length))]
 fn control_length(word: u32) -> usize
     ensures { (result ≡ control_length word) × (result ≤ 258) }
 {
@@ -46,6 +48,7 @@ fn control_length(word: u32) -> usize
     2
 }
 
+#[tactic(auto, using(model::proofs::Tests::tests), unfolding(crate::specs::Parts::exclusive_length))]
 fn exclusive_length(source: &[u8], word: u32) -> usize
     ensures { (result ≡ exclusive_length source.now word) × (result ≤ 258) }
 {
@@ -60,6 +63,7 @@ fn exclusive_length(source: &[u8], word: u32) -> usize
 }
 
 // The bytes of an event without its duration.
+#[tactic(auto, using(crate::proofs::Lengths::event_lengths))]
 fn event_length(source: &[u8], word: u32) -> usize
     requires { 0 < kind_in word }
     ensures { (result ≡ event_length source.now word) × (result ≤ 258) }
@@ -83,6 +87,7 @@ fn event_length(source: &[u8], word: u32) -> usize
     0
 }
 
+#[tactic(auto, using(crate::proofs::Lengths::item_lengths))]
 pub fn given_length(voice: Voice, source: &[u8], duration: u32, word: u32) -> usize
     ensures { (result ≡ length (given_bytes (item_given voice source.now duration word))) × (result ≤ 260) }
 {

@@ -7,15 +7,14 @@ use items::is_note;
 use model::Voice;
 
 // Whether a word says a note with a gate time of one byte.
+#[tactic(auto, using(model::proofs::Tests::tests, model::proofs::Tests::junctions), unfolding(crate::specs::Parts::is_narrow))]
 pub fn is_narrow(word: u32) -> bool
     ensures { result ≡ is_narrow word }
 {
-    if word / 0x8000000 != 1 {
-        return false;
-    }
-    word / 4 % 0x8000 <= 127
+    word / 0x8000000 == 1 && word / 4 % 0x8000 <= 127
 }
 
+#[tactic(auto, using(model::proofs::Tests::tests, model::proofs::Tests::junctions, crate::proofs::ShortNotes::note_bits, crate::proofs::ShortNotes::gate_bits), unfolding(crate::specs::Parts::is_short_note))]
 fn is_short_note(duration: u32, word: u32) -> bool
     ensures { result ≡ is_short_note duration word }
 {
@@ -41,6 +40,7 @@ fn is_short_note(duration: u32, word: u32) -> bool
 }
 
 // Whether an item is a short note that a voice can have.
+#[tactic(auto, using(crate::proofs::ShortNotes::short_voices))]
 pub fn is_short(voice: Voice, duration: u32, word: u32) -> bool
     ensures { result ≡ is_short voice duration word }
 {
@@ -51,6 +51,7 @@ pub fn is_short(voice: Voice, duration: u32, word: u32) -> bool
 }
 
 // Three bytes, at a place with room for them. Returns the place after them.
+#[tactic(auto, using(crate::proofs::ShortNotes::short_stores))]
 pub fn write_short(duration: u32, word: u32, out: &mut [u8], at: usize) -> usize
     requires short_note { ShortNote duration word }
     requires at_in_bounds { at + 3 ≤ length out.old }

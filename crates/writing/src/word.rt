@@ -6,6 +6,7 @@ ghost use Rattle.model.specs.Writing.{event_in, event_word, is_kind};
 use model::{Event, Voice};
 
 // The event that a word says.
+#[tactic(auto, using(model::proofs::Tests::tests, model::proofs::Tests::junctions), unfolding(model::specs::Writing::event_in))]
 pub fn event_in(word: u32) -> Event
     ensures { result ≡ event_in word }
 {
@@ -44,6 +45,7 @@ pub fn event_in(word: u32) -> Event
 }
 
 // Whether a word has no bits but those of its event.
+#[tactic(auto, using(crate::proofs::WordCases::exact))]
 pub fn is_exact(word: u32) -> bool
     ensures { result ≡ (event_word (event_in word) ≡? word) }
 {
@@ -67,6 +69,7 @@ pub fn is_exact(word: u32) -> bool
 }
 
 // The kinds of a voice.
+#[tactic(auto, using(crate::proofs::WordCases::kinds))]
 pub fn is_kind(voice: Voice, kind: u32) -> bool
     ensures { result ≡ is_kind voice kind }
 {

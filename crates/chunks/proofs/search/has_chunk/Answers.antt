@@ -5,15 +5,6 @@ use Rattle.chunks.proofs.search.has_chunk.Goals as goal
 pub loop-at-init : goal.loop-at-init
 loop-at-init c = search (rules, having, remaining)
 
-pub read_chunk-requires : goal.read_chunk-requires
-read_chunk-requires c = search (rules, having, remaining)
-
-pub enum_known-next : goal.enum_known-next
-enum_known-next c = search (rules, having, remaining)
-
-pub enum_told-1 : goal.enum_told-1
-enum_told-1 c = search (rules, having, remaining)
-
 pub returns-in_default : goal.returns-in_default
 returns-in_default c = search (rules, having, remaining)
 

@@ -5,8 +5,8 @@ use Rattle.entries.specs.Rows.{rows_in}
 use Rattle.entries.proofs.Naming.{Lettering}
 use Rattle.entries.proofs.letters.letters_named.Given as goal
 
-abbrev pub invariant-loop-i : goal.invariant-loop-i
-invariant-loop-i l = Lettering (rows_in l.entries) l.letters l.i
+abbrev pub invariant-loop-letter : goal.invariant-loop-letter
+invariant-loop-letter l = Lettering (rows_in l.entries) l.letters l.letter-index
 
-abbrev pub decreases-loop-i : goal.decreases-loop-i
-decreases-loop-i l = length l.letters - l.i
+abbrev pub decreases-loop-letter : goal.decreases-loop-letter
+decreases-loop-letter l = length l.letters - l.letter-index

@@ -6,20 +6,8 @@ use Rattle.entries.proofs.rows.judge_rows.Goals as goal
 pub loop-i-init : goal.loop-i-init
 loop-i-init c = search (rules, holding)
 
-pub row_at-row-requires : goal.row_at-row-requires
-row_at-row-requires c = search (rules, holding)
-
-pub judge_row-judged-requires : goal.judge_row-judged-requires
-judge_row-judged-requires c = search (rules, holding)
-
 pub returns-then-not-judged : goal.returns-then-not-judged
 returns-then-not-judged c = search (rules, holding)
-
-pub overflow_add-i : goal.overflow_add-i
-overflow_add-i c = search (rules, holding)
-
-pub loop-i-smaller : goal.loop-i-smaller
-loop-i-smaller c = search (rules, holding)
 
 pub loop-i-preserved : goal.loop-i-preserved
 loop-i-preserved c =

@@ -1,7 +1,6 @@
 -- `flattening::gaps::gap_size` meets its contract.
 use Rattle.flattening.proofs.Waiting.{sizes}
-use borrow.Author.Rules.{rules}
 use Rattle.flattening.proofs.gaps.gap_size.Goals as goal
 
-pub returns : goal.returns
-returns c = record { value = search sizes; upper_bound = search rules }
+pub returns-clause-value : goal.returns-clause-value
+returns-clause-value c = search sizes

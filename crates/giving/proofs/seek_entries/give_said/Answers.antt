@@ -1,16 +1,15 @@
--- `giving::seek_entries::give_said` meets its contract.
-use Rattle.giving.proofs.EntriesGiven.{entries_given_lem}
 use borrow.Author.Rules.{rules}
+use native.Mathlib.Omega.{arith}
+use Rattle.giving.proofs.EntriesGiven.{letters_inside, entries_given_lem}
 use Rattle.giving.proofs.seek_entries.give_said.Goals as goal
 
-pub returns-then-table-count : goal.returns-then-table-count
-returns-then-table-count c = record { value = search (rules, entries_given_lem); table_after = search (rules, entries_given_lem); letters_after = search (rules, entries_given_lem) }
+pub overflow_add-end : goal.overflow_add-end
+overflow_add-end c =
+    let inside = letters_inside _ _ c.requires.formed _ c.points_of-points.ensures in
+    record { fits = omega (arith, c.requires.seek_len_bound) }
 
-pub returns-then-letters-points : goal.returns-then-letters-points
-returns-then-letters-points c = record { value = search (rules, entries_given_lem); table_after = search (rules, entries_given_lem); letters_after = search (rules, entries_given_lem) }
+pub slice_bounds-copy_from_slice-end-3 : goal.slice_bounds-copy_from_slice-end-3
+slice_bounds-copy_from_slice-end-3 c = search (rules, entries_given_lem)
 
-pub copy_letters-requires : goal.copy_letters-requires
-copy_letters-requires c = record { count_in_bounds = search (rules, entries_given_lem); count_in_bounds_2 = search rules }
-
-pub returns : goal.returns
-returns c = record { value = search (rules, entries_given_lem); table_after = search (rules, entries_given_lem); letters_after = search (rules, entries_given_lem) }
+pub returns-clause-letters_after : goal.returns-clause-letters_after
+returns-clause-letters_after c = search (rules, entries_given_lem)

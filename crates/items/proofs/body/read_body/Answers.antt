@@ -1,4 +1,5 @@
 use borrow.Author.Rules.{rules}
+use Rattle.model.proofs.Tests.{handed_on}
 use Rattle.items.proofs.Reading.{reading}
 use Rattle.items.proofs.body.read_body.Goals as goal
 
@@ -39,25 +40,25 @@ pub enum_known-duration : goal.enum_known-duration
 enum_known-duration c = search (rules, reading)
 
 pub overflow_add-count-in-Timed : goal.overflow_add-count-in-Timed
-overflow_add-count-in-Timed c = search (rules, reading)
+overflow_add-count-in-Timed c = search (rules, reading, c.in_ok-duration.was)
 
 pub overflow_cast-lasts-in-Timed : goal.overflow_cast-lasts-in-Timed
-overflow_cast-lasts-in-Timed c = search (rules, reading)
+overflow_cast-lasts-in-Timed c = search (rules, reading, c.in_ok-duration.was)
 
 pub overflow_add-lasts-in-Timed : goal.overflow_add-lasts-in-Timed
-overflow_add-lasts-in-Timed c = search (rules, reading)
+overflow_add-lasts-in-Timed c = search (rules, reading, c.in_ok-duration.was)
 
 pub loop-at-smaller-in-Timed : goal.loop-at-smaller-in-Timed
-loop-at-smaller-in-Timed c = search (rules, reading)
+loop-at-smaller-in-Timed c = search (rules, reading, c.in_ok-duration.was)
 
 pub loop-at-preserved-in-Timed : goal.loop-at-preserved-in-Timed
-loop-at-preserved-in-Timed c = search (rules, reading)
+loop-at-preserved-in-Timed c = search (rules, reading, c.in_ok-duration.was)
 
 pub enum_known-next : goal.enum_known-next
 enum_known-next c = search (rules, reading)
 
 pub overflow_add-count-in-EndMark : goal.overflow_add-count-in-EndMark
-overflow_add-count-in-EndMark c = search (rules, reading)
+overflow_add-count-in-EndMark c = search (rules, reading, c.in_ok-duration.was)
 
 pub loop-at-smaller : goal.loop-at-smaller
 loop-at-smaller c = search (rules, reading)
@@ -65,11 +66,8 @@ loop-at-smaller c = search (rules, reading)
 pub loop-at-preserved : goal.loop-at-preserved
 loop-at-preserved c = search (rules, reading)
 
-pub enum_known-number : goal.enum_known-number
-enum_known-number c = search (rules, reading)
-
-pub returns-in-Refused : goal.returns-in-Refused
-returns-in-Refused c = search (rules, reading)
+pub returns-in_err-duration : goal.returns-in_err-duration
+returns-in_err-duration c = handed_on _ _ _ c.from_residual.ensures.1 (search (rules, reading, c.in_err-duration.was))
 
 pub returns : goal.returns
 returns c = search (rules, reading)

@@ -1,7 +1,6 @@
--- `write_kind` writes a name and the space after it.
-use Rattle.lines.proofs.Numbers.{closes}
 use borrow.Author.Rules.{rules}
+use Rattle.lines.proofs.Names.{name_next}
 use Rattle.lines.proofs.name.write_kind.Goals as goal
 
-pub returns : goal.returns
-returns c = search (rules, closes)
+pub returns-clause-value : goal.returns-clause-value
+returns-clause-value c = search (rules, name_next)

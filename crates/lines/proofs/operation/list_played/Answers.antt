@@ -11,10 +11,10 @@ write_listing-requires c =
     let bytes : (k : ℕ) → c.args.input.now ! k < 256 = λ k. omega (arith, c.shared_slice_known-1.given k) in
     record { count_in_bounds = (search (rules, heard), search (rules, heard)); count_in_bounds_2 = search (rules, heard); end_bound = (search (rules, heard), search rules); early = search (rules, heard) }
 
-pub returns-in-Refused : goal.returns-in-Refused
-returns-in-Refused c = record { value = (search (rules, unheard), search rules); out_after = search (rules, unheard) }
+pub returns-in-Err : goal.returns-in-Err
+returns-in-Err c = record { value = search (rules, unheard); within = search rules; out_after = search (rules, unheard) }
 
-pub returns-in-Rows : goal.returns-in-Rows
-returns-in-Rows c =
+pub returns-in-Ok : goal.returns-in-Ok
+returns-in-Ok c =
     let bytes : (k : ℕ) → c.args.input.now ! k < 256 = λ k. omega (arith, c.shared_slice_known-1.given k) in
-    record { value = (search (rules, heard), search (rules, heard)); out_after = search (rules, heard) }
+    record { value = search (rules, heard); within = search (rules, heard); out_after = search (rules, heard) }

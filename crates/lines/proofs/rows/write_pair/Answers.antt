@@ -1,7 +1,6 @@
--- `write_pair` writes one part after the other.
-use Rattle.lines.proofs.Rowing.{pairs}
 use borrow.Author.Rules.{rules}
+use Rattle.lines.proofs.Rowing.{pairs}
 use Rattle.lines.proofs.rows.write_pair.Goals as goal
 
-pub returns : goal.returns
-returns c = record { value = (search (rules, pairs), search rules); out_after = search (rules, pairs) }
+pub returns-clause-value : goal.returns-clause-value
+returns-clause-value c = search (rules, pairs)

@@ -1,7 +1,8 @@
 -- `with_channel` changes one channel.
-use borrow.Author.Rules.{rules}
-use Rattle.pitch.proofs.ChannelSteps.{none_changed}
+use mathlib.Core.Path.{sym}
+use lib.Seq.{set_out}
+use native.Mathlib.Omega.{arith}
 use Rattle.pitch.proofs.channels.with_channel.Goals as goal
 
 pub returns-then-at-ge4 : goal.returns-then-at-ge4
-returns-then-at-ge4 c = search (rules, none_changed)
+returns-then-at-ge4 c = sym (set_out c.args.channels c.args.number c.args.channel (omega arith))

@@ -1,28 +1,36 @@
 -- `playing::bodies::open_at` meets its contract.
-use Rattle.playing.proofs.Openings.{openings}
 use borrow.Author.Rules.{rules}
+use Rattle.playing.proofs.Openings.{openings}
 use Rattle.playing.proofs.bodies.open_at.Goals as goal
+use Rattle.playing.proofs.bodies.open_at.Goals.{in-Some, in-None}
+
+pub find_part-requires-clause-start_le_end : goal.find_part-requires-clause-start_le_end
+find_part-requires-clause-start_le_end c = (search openings, search rules, search rules)
+
+pub find_part-requires-clause-end_value : goal.find_part-requires-clause-end_value
+find_part-requires-clause-end_value c = search openings
+
+pub returns-in_err-sequence : goal.returns-in_err-sequence
+returns-in_err-sequence c = search (openings, c.in_err-sequence.was)
+
+pub find_part-requires-2-clause-start_le_end : goal.find_part-requires-2-clause-start_le_end
+find_part-requires-2-clause-start_le_end c = (search openings, search rules, search rules)
+
+pub find_part-requires-2-clause-end_value : goal.find_part-requires-2-clause-end_value
+find_part-requires-2-clause-end_value c = search openings
+
+pub overflow_add-seek : goal.overflow_add-seek
+overflow_add-seek c = search (rules, openings, c.in-Some.is)
 
 pub bounds-s-place : goal.bounds-s-place
 bounds-s-place c = search (rules, openings)
 
-pub find_part-requires : goal.find_part-requires
-find_part-requires c = record { start_le_end = (search openings, search rules, search rules); end_value = search openings }
+pub overflow_add-result-3 : goal.overflow_add-result-3
+overflow_add-result-3 c = search (rules, openings, c.in_ok-sequence.was)
 
-pub returns-in_default : goal.returns-in_default
-returns-in_default c = search openings
-
-pub overflow_add-sequence : goal.overflow_add-sequence
-overflow_add-sequence c = search (rules, openings)
-
-pub find_part-requires-2 : goal.find_part-requires-2
-find_part-requires-2 c = record { start_le_end = (search openings, search rules, search rules); end_value = search openings }
-
-pub overflow_add-result : goal.overflow_add-result
-overflow_add-result c = search (rules, openings)
-
-pub returns-in-At-find_part : goal.returns-in-At-find_part
-returns-in-At-find_part c = search openings
-
-pub returns-in-Nowhere : goal.returns-in-Nowhere
-returns-in-Nowhere c = search openings
+pub returns : goal.returns
+returns c =
+    elim c.match-find_part.branch [
+      | in-Some w ↦ search (openings, c.in_ok-sequence.was, w.in-Some.is, w.seek-is)
+      | in-None w ↦ search (openings, c.in_ok-sequence.was, w.in-None.is, w.seek-is)
+    ]

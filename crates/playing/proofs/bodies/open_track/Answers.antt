@@ -1,13 +1,16 @@
 -- `playing::bodies::open_track` meets its contract.
-use Rattle.playing.proofs.Rows.{rows_named}
 use borrow.Author.Rules.{rules}
+use Rattle.playing.proofs.Rows.{rows_named}
 use Rattle.playing.proofs.bodies.open_track.Goals as goal
 
-pub open_at-requires : goal.open_at-requires
-open_at-requires c = record { size_in_bounds = (search rows_named, search rules); size_value = search rows_named }
+pub returns-in_err-track : goal.returns-in_err-track
+returns-in_err-track c = search (rules, rows_named, c.in_err-track.was)
 
-pub returns-in-At : goal.returns-in-At
-returns-in-At c = search rows_named
+pub open_at-requires-clause-size_in_bounds : goal.open_at-requires-clause-size_in_bounds
+open_at-requires-clause-size_in_bounds c = (search (rows_named, c.in_ok-track.was), search rules)
 
-pub returns-in-Nowhere : goal.returns-in-Nowhere
-returns-in-Nowhere c = search rows_named
+pub open_at-requires-clause-size_value : goal.open_at-requires-clause-size_value
+open_at-requires-clause-size_value c = search (rows_named, c.in_ok-track.was)
+
+pub returns : goal.returns
+returns c = search (rows_named, c.in_ok-track.was)

@@ -11,46 +11,13 @@ use Rattle.playing.proofs.LetterSpans.{PassedBy, passage_goes_on, find_starts, f
 use Rattle.playing.proofs.letters.find_spans.Goals as goal
 use Rattle.playing.proofs.letters.find_spans.Goals.{then-not-known-slot+else-passage, else-not-known-slot}
 
-pub no_span-spans-requires : goal.no_span-spans-requires
-no_span-spans-requires c = search (rules, finding)
-
 pub loop-i-init : goal.loop-i-init
 loop-i-init c =
     find_starts _ _ _ _ _ (λ k. omega (arith, c.type_inv.body k))
     (λ k. omega (arith, c.type_inv.letters k)) (search rules) (search rules) (search rules)
 
-pub bounds-letters-i : goal.bounds-letters-i
-bounds-letters-i c = search (rules, finding)
-
-pub overflow_cast-slot : goal.overflow_cast-slot
-overflow_cast-slot c = search (rules, finding)
-
-pub bounds-known-slot : goal.bounds-known-slot
-bounds-known-slot c = search (rules, finding)
-
-pub passage_of_letter-passage-requires : goal.passage_of_letter-passage-requires
-passage_of_letter-passage-requires c = record { ready = search rules; seek_value = search (rules, finding) }
-
-pub offset_bounds-spans-slot : goal.offset_bounds-spans-slot
-offset_bounds-spans-slot c = search (rules, finding)
-
-pub bounds-spans-slot : goal.bounds-spans-slot
-bounds-spans-slot c = search (rules, finding)
-
-pub bounds-known-slot-then-not-known-slot : goal.bounds-known-slot-then-not-known-slot
-bounds-known-slot-then-not-known-slot c = search (rules, finding)
-
-pub overflow_add-result : goal.overflow_add-result
-overflow_add-result c = search (rules, finding)
-
 pub returns-then-passage : goal.returns-then-passage
 returns-then-passage c = search (rules, finding)
-
-pub overflow_add-i : goal.overflow_add-i
-overflow_add-i c = search (rules, finding)
-
-pub loop-i-smaller : goal.loop-i-smaller
-loop-i-smaller c = search (rules, finding)
 
 pub loop-i-preserved : goal.loop-i-preserved
 loop-i-preserved c =

@@ -1,5 +1,4 @@
 -- `playing::letters::find_spans` meets its contract.
-use Prim.Native.Nat.{◌-◌}
 use mathlib.Core.Bool.{true}
 use lib.ListN.{length}
 use Rattle.model.specs.Item.{items_of}
@@ -10,6 +9,3 @@ use Rattle.playing.proofs.letters.find_spans.Given as goal
 abbrev pub invariant-loop-i : goal.invariant-loop-i
 invariant-loop-i l =
     Finding (items_of l.voice l.body) (length l.body) (entries_said true l.seek) l.letters l.spans l.known l.i
-
-abbrev pub decreases-loop-i : goal.decreases-loop-i
-decreases-loop-i l = length l.letters - l.i

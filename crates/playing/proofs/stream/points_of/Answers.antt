@@ -1,13 +1,12 @@
 -- `playing::stream::points_of` meets its contract.
+use mathlib.Core.Path.{sym, ◌∙◌}
+use borrow.Author.Tests.{eqb-true, eqb-false}
 use borrow.Author.Rules.{rules}
-use Rattle.playing.proofs.Streams.{saying}
+use Rattle.playing.proofs.Streams.{points_none, points_some}
 use Rattle.playing.proofs.stream.points_of.Goals as goal
 
-pub returns-then-seek-eq0 : goal.returns-then-seek-eq0
-returns-then-seek-eq0 c = search saying
-
-pub read_points-requires : goal.read_points-requires
-read_points-requires c = record { s_len_bound = search rules; s_value = search (rules, saying) }
+pub returns-then-is_empty : goal.returns-then-is_empty
+returns-then-is_empty c = points_none _ _ (eqb-true _ 0 (sym c.is_empty.ensures ∙ c.if-is_empty.true))
 
 pub returns : goal.returns
-returns c = search saying
+returns c = points_some _ _ (eqb-false _ 0 (sym c.is_empty.ensures ∙ c.if-is_empty.false)) _ (search rules)

@@ -1,3 +1,5 @@
+-- `reading::find::find_track` meets its contract.
+use mathlib.Core.Path.{◌∙◌}
 use borrow.Author.Rules.{rules}
 use Rattle.reading.proofs.Finding.{finding}
 use Rattle.reading.proofs.find.find_track.Goals as goal
@@ -8,35 +10,29 @@ overflow_sub-end c = search (rules, finding)
 pub loop-at-init : goal.loop-at-init
 loop-at-init c = search (rules, finding)
 
-pub read_chunk-requires : goal.read_chunk-requires
-read_chunk-requires c = search (rules, finding)
+pub returns-in_err-chunk : goal.returns-in_err-chunk
+returns-in_err-chunk c = c.from_residual.ensures ∙ search (rules, finding, c.in_err-chunk.was)
 
-pub enum_known-size : goal.enum_known-size
-enum_known-size c = search (rules, finding)
+pub track_at-requires-clause-size_in_bounds : goal.track_at-requires-clause-size_in_bounds
+track_at-requires-clause-size_in_bounds c = search (rules, finding, c.in_ok-chunk.was)
 
-pub enum_told-1 : goal.enum_told-1
-enum_told-1 c = search (rules, finding)
-
-pub returns-in_default : goal.returns-in_default
-returns-in_default c = search (rules, finding)
-
-pub track_at-requires : goal.track_at-requires
-track_at-requires c = search (rules, finding)
+pub track_at-requires-clause-size_value : goal.track_at-requires-clause-size_value
+track_at-requires-clause-size_value c = search (rules, finding, c.in_ok-chunk.was)
 
 pub returns-then-k-row : goal.returns-then-k-row
-returns-then-k-row c = search (rules, finding)
+returns-then-k-row c = search (rules, finding, c.in_ok-chunk.was)
 
-pub count_rows-k-requires : goal.count_rows-k-requires
-count_rows-k-requires c = search (rules, finding)
+pub count_rows-k-requires-clause-size_in_bounds : goal.count_rows-k-requires-clause-size_in_bounds
+count_rows-k-requires-clause-size_in_bounds c = search (rules, finding, c.in_ok-chunk.was)
 
-pub overflow_add-k : goal.overflow_add-k
-overflow_add-k c = search (rules, finding)
+pub count_rows-k-requires-clause-size_value : goal.count_rows-k-requires-clause-size_value
+count_rows-k-requires-clause-size_value c = search (rules, finding, c.in_ok-chunk.was)
 
 pub loop-at-smaller : goal.loop-at-smaller
-loop-at-smaller c = search (rules, finding)
+loop-at-smaller c = search (rules, finding, c.in_ok-chunk.was)
 
 pub loop-at-preserved : goal.loop-at-preserved
-loop-at-preserved c = search (rules, finding)
+loop-at-preserved c = search (rules, finding, c.in_ok-chunk.was)
 
 pub returns : goal.returns
 returns c = search (rules, finding)

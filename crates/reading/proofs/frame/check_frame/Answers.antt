@@ -1,26 +1,23 @@
 -- `reading::frame::check_frame` meets its contract.
-use Rattle.reading.proofs.Frames.{frame_list_fine}
+use mathlib.Core.Path.{◌∙◌}
 use Rattle.model.proofs.Answers.{checks}
-use Rattle.model.proofs.Tests.{tests}
-use Rattle.model.proofs.Tests.{first_true, second_true, neither_true, not_on, not_off}
-use Rattle.reading.proofs.Frames.{frame_stages, sizes, frame_contents}
-use borrow.Author.Rules.{rules}
+use Rattle.model.proofs.Tests.{tests, handed_on, first_true, second_true, neither_true, not_on, not_off}
+use Rattle.reading.proofs.Frames.{frame_list_fine, frame_stages, sizes, frame_contents}
+use Rattle.reading.proofs.frame.check_frame.Goals.{then-s-lt10-via-then-s-lt10, then-s-lt10-via-else-s-lt10+then-not-stands_at}
 use Rattle.reading.proofs.frame.check_frame.Goals as goal
 
 pub returns-then-s-lt10 : goal.returns-then-s-lt10
-returns-then-s-lt10 c = search (frame_stages, checks, tests, first_true, second_true, neither_true, not_on, not_off, sizes, frame_contents) depth 12 fits 20000
+returns-then-s-lt10 c = c.refused.ensures
+    ∙ elim c.then-s-lt10.branch [ then-s-lt10-via-then-s-lt10 w ↦ search (frame_stages, checks, tests, first_true, second_true, neither_true, not_on, not_off, sizes, frame_contents) depth 12 fits 20000 | then-s-lt10-via-else-s-lt10+then-not-stands_at w ↦ search (frame_stages, checks, tests, first_true, second_true, neither_true, not_on, not_off, sizes, frame_contents) depth 12 fits 20000 ]
 
-pub returns-then-not-same_id : goal.returns-then-not-same_id
-returns-then-not-same_id c = search (frame_stages, checks, tests, first_true, second_true, neither_true, not_on, not_off, sizes, frame_contents) depth 12 fits 20000
+pub returns-then-number_at-s : goal.returns-then-number_at-s
+returns-then-number_at-s c = c.refused-then-number_at-s.ensures ∙ search (frame_stages, checks, tests, first_true, second_true, neither_true, not_on, not_off, sizes, frame_contents) depth 12 fits 20000
 
-pub returns-then-number_4-s : goal.returns-then-number_4-s
-returns-then-number_4-s c = search (frame_stages, checks, tests, first_true, second_true, neither_true, not_on, not_off, sizes, frame_contents) depth 12 fits 20000
+pub returns-in_err-check_list : goal.returns-in_err-check_list
+returns-in_err-check_list c = handed_on _ _ _ c.from_residual.ensures.1 (search (frame_stages, checks, tests, first_true, second_true, neither_true, not_on, not_off, sizes, frame_contents, c.in_err-check_list.was) depth 12 fits 20000)
 
-pub check_contents-requires : goal.check_contents-requires
-check_contents-requires c = record { le_end = search rules; end_value = search frame_list_fine }
+pub check_contents-requires-clause-end_value : goal.check_contents-requires-clause-end_value
+check_contents-requires-clause-end_value c = search (frame_list_fine, c.in_ok-check_list.was)
 
-pub returns-in-Refused : goal.returns-in-Refused
-returns-in-Refused c = search (frame_stages, checks, tests, first_true, second_true, neither_true, not_on, not_off, sizes, frame_contents) depth 12 fits 20000
-
-pub returns-in-Passed : goal.returns-in-Passed
-returns-in-Passed c = search (frame_stages, checks, tests, first_true, second_true, neither_true, not_on, not_off, sizes, frame_contents) depth 12 fits 20000
+pub returns : goal.returns
+returns c = search (frame_stages, checks, tests, first_true, second_true, neither_true, not_on, not_off, sizes, frame_contents, c.in_ok-check_list.was) depth 12 fits 20000

@@ -1,6 +1,10 @@
 -- `reading::frame::opens_with_contents` meets its contract.
+use native.Mathlib.Omega.{arith}
 use Rattle.reading.proofs.Frames.{opening}
 use Rattle.reading.proofs.frame.opens_with_contents.Goals as goal
+
+pub stands_at-requires : goal.stands_at-requires
+stands_at-requires c = (omega arith, search opening)
 
 pub returns-then-end-le8 : goal.returns-then-end-le8
 returns-then-end-le8 c = search opening
@@ -8,11 +12,8 @@ returns-then-end-le8 c = search opening
 pub returns-in_default : goal.returns-in_default
 returns-in_default c = search opening
 
-pub same_id-requires : goal.same_id-requires
-same_id-requires c = search opening
+pub returns-then-stands_at : goal.returns-then-stands_at
+returns-then-stands_at c = search opening
 
-pub returns-then-not-same_id : goal.returns-then-not-same_id
-returns-then-not-same_id c = search opening
-
-pub returns : goal.returns
-returns c = search opening
+pub returns-else-stands_at : goal.returns-else-stands_at
+returns-else-stands_at c = search opening

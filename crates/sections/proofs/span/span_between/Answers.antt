@@ -5,11 +5,11 @@ use Rattle.sections.proofs.Spanning.{reaching}
 use borrow.Author.Rules.{rules}
 use Rattle.sections.proofs.span.span_between.Goals as goal
 
-pub walk_to-from-requires : goal.walk_to-from-requires
-walk_to-from-requires c = record { body_len_bound = search rules; body_value = search rules; walked = search (rules, reaching); address_value = search (rules, reaching); at_le_marks = search (rules, reaching); at_le_address = search (rules, reaching) }
+pub walk_to-from-requires-clause-walked : goal.walk_to-from-requires-clause-walked
+walk_to-from-requires-clause-walked c = search (rules, reaching)
 
-pub passage_on-requires : goal.passage_on-requires
-passage_on-requires c = record { body_len_bound = search rules; body_value = search rules; arrived = search (rules, reaching); stop_value = search rules; at_le_stop = search (rules, reaching) }
+pub passage_on-requires-clause-arrived : goal.passage_on-requires-clause-arrived
+passage_on-requires-clause-arrived c = search (rules, reaching)
 
 pub returns : goal.returns
 returns c =

@@ -6,11 +6,11 @@ use Rattle.sections.proofs.take.take_read.Goals as goal
 pub word_of-requires : goal.word_of-requires
 word_of-requires c = search (rules, taking)
 
-pub returns-in-Timed : goal.returns-in-Timed
-returns-in-Timed c = search (rules, taking)
+pub returns-in-Ok-Timed : goal.returns-in-Ok-Timed
+returns-in-Ok-Timed c = search (rules, taking)
 
-pub returns-in-EndMark : goal.returns-in-EndMark
-returns-in-EndMark c = search (rules, taking)
+pub returns-in-Ok-EndMark : goal.returns-in-Ok-EndMark
+returns-in-Ok-EndMark c = search (rules, taking)
 
-pub returns-in-Refused : goal.returns-in-Refused
-returns-in-Refused c = search (rules, taking)
+pub returns-in-Err : goal.returns-in-Err
+returns-in-Err c = search (rules, taking)

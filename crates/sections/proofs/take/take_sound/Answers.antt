@@ -6,8 +6,8 @@ use Rattle.sections.proofs.take.take_sound.Goals as goal
 pub sound_word-requires : goal.sound_word-requires
 sound_word-requires c = search (rules, taking)
 
-pub returns-in-Is : goal.returns-in-Is
-returns-in-Is c = search (rules, taking)
+pub returns-in-Ok : goal.returns-in-Ok
+returns-in-Ok c = search (rules, taking)
 
-pub returns-in-Refused : goal.returns-in-Refused
-returns-in-Refused c = search (rules, taking)
+pub returns-in-Err : goal.returns-in-Err
+returns-in-Err c = search (rules, taking)

@@ -1,19 +1,7 @@
 -- `sections::word::word_of` meets its contract.
-use Rattle.sections.proofs.Words.{words, bounds}
+use Rattle.sections.proofs.Words.{words}
 use borrow.Author.Rules.{rules}
 use Rattle.sections.proofs.word.word_of.Goals as goal
-
-pub pack-requires : goal.pack-requires
-pack-requires c = search (rules, bounds)
-
-pub pack-requires-in-Wave : goal.pack-requires-in-Wave
-pack-requires-in-Wave c = search (rules, bounds)
-
-pub pack-requires-in-Control : goal.pack-requires-in-Control
-pack-requires-in-Control c = search (rules, bounds)
-
-pub pack_exclusive-requires : goal.pack_exclusive-requires
-pack_exclusive-requires c = search (rules, bounds)
 
 pub returns-in-Nop : goal.returns-in-Nop
 returns-in-Nop c = search (rules, words)

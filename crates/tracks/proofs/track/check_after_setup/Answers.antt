@@ -1,15 +1,16 @@
 -- `tracks::track::check_after_setup` meets its contract.
-use Rattle.tracks.proofs.Stages.{afters}
-use Rattle.tracks.proofs.Bodies.{sequences}
-use Rattle.tracks.proofs.Stages.{sequence_fine, part_inside}
-use borrow.Author.Rules.{rules}
+use Rattle.model.proofs.Tests.{handed_on}
+use Rattle.tracks.proofs.Stages.{afters, sequence_fine, part_inside}
 use Rattle.tracks.proofs.track.check_after_setup.Goals as goal
 
-pub check_seek-requires : goal.check_seek-requires
-check_seek-requires c = record { body_len_bound = search sequences; body_value = search sequence_fine; inside = search part_inside; s_len_bound = search rules }
+pub returns-in_err-check_sequence : goal.returns-in_err-check_sequence
+returns-in_err-check_sequence c = handed_on _ _ _ c.from_residual.ensures.1 (search (afters, c.in_err-check_sequence.was))
 
-pub returns-in-Refused : goal.returns-in-Refused
-returns-in-Refused c = search afters
+pub check_seek-requires-clause-body_value : goal.check_seek-requires-clause-body_value
+check_seek-requires-clause-body_value c = search (sequence_fine, c.in_ok-check_sequence.was)
 
-pub returns-in-Passed : goal.returns-in-Passed
-returns-in-Passed c = search afters
+pub check_seek-requires-clause-inside : goal.check_seek-requires-clause-inside
+check_seek-requires-clause-inside c = search part_inside
+
+pub returns : goal.returns
+returns c = search (afters, c.in_ok-check_sequence.was)

@@ -1,14 +1,13 @@
 -- `tracks::track::check_parts` meets its contract.
-use Rattle.tracks.proofs.Stages.{parts_fine}
-use Rattle.tracks.proofs.Stages.{listed}
-use borrow.Author.Rules.{rules}
+use Rattle.model.proofs.Tests.{handed_on}
+use Rattle.tracks.proofs.Stages.{listed, parts_fine}
 use Rattle.tracks.proofs.track.check_parts.Goals as goal
 
-pub check_after_parts-requires : goal.check_after_parts-requires
-check_after_parts-requires c = record { header_in_bounds = search rules; end_value = search parts_fine }
+pub returns-in_err-check_list : goal.returns-in_err-check_list
+returns-in_err-check_list c = handed_on _ _ _ c.from_residual.ensures.1 (search (listed, c.in_err-check_list.was))
 
-pub returns-in-Refused : goal.returns-in-Refused
-returns-in-Refused c = search listed
+pub check_after_parts-requires-clause-end_value : goal.check_after_parts-requires-clause-end_value
+check_after_parts-requires-clause-end_value c = search (parts_fine, c.in_ok-check_list.was)
 
-pub returns-in-Passed : goal.returns-in-Passed
-returns-in-Passed c = search listed
+pub returns : goal.returns
+returns c = search (listed, c.in_ok-check_list.was)

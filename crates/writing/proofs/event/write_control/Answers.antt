@@ -18,9 +18,6 @@ returns-then-kind-lt11 c = search (rules, controls)
 pub bounds-out-at-2 : goal.bounds-out-at-2
 bounds-out-at-2 c = search (rules, controls)
 
-pub overflow_add-out-3 : goal.overflow_add-out-3
-overflow_add-out-3 c = search (rules, controls)
-
 pub bounds-out-at-3 : goal.bounds-out-at-3
 bounds-out-at-3 c = search (rules, controls)
 

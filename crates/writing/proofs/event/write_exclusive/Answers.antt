@@ -15,8 +15,5 @@ bounds-out-at-3 c = search (rules, exclusives)
 pub copy_part-requires : goal.copy_part-requires
 copy_part-requires c = search (rules, exclusives)
 
-pub shape_of-out : goal.shape_of-out
-shape_of-out c = search (rules, exclusives)
-
 pub returns : goal.returns
 returns c = search (rules, exclusives)

@@ -9,8 +9,5 @@ bounds-out-at c = search (rules, sounds)
 pub write_duration-requires : goal.write_duration-requires
 write_duration-requires c = search (rules, sounds)
 
-pub shape_of-out : goal.shape_of-out
-shape_of-out c = search (rules, sounds)
-
 pub returns : goal.returns
 returns c = search (rules, sounds)

@@ -2,7 +2,6 @@
 use Rattle.writing.proofs.GivenItems.{given_parts}
 use Rattle.writing.proofs.ShortNotes.{short_parts}
 use Rattle.model.proofs.Tests.{is_on}
-use Rattle.writing.proofs.Items.{parts}
 use borrow.Author.Rules.{rules}
 use Rattle.writing.proofs.given.write_given.Goals as goal
 
@@ -18,11 +17,8 @@ write_end_mark-requires c = search (rules, given_parts)
 pub returns-then-word-eq16 : goal.returns-then-word-eq16
 returns-then-word-eq16 c = search (rules, given_parts)
 
-pub write_duration-middle-requires : goal.write_duration-middle-requires
-write_duration-middle-requires c = search (rules, given_parts, parts)
-
-pub write_event-requires : goal.write_event-requires
-write_event-requires c = search (rules, given_parts, parts)
+pub write_item-requires : goal.write_item-requires
+write_item-requires c = search (rules, given_parts)
 
 pub returns : goal.returns
-returns c = search (rules, given_parts, parts)
+returns c = search (rules, given_parts)

@@ -1,2 +1,0 @@
--- The definitions of this crate, each file over those above it.
-pub mod Remainders

@@ -1,9 +1,0 @@
--- `roll::messages::look_over` meets its contract.
-use Prim.Native.Nat.{◌≤◌, ◌-◌}
-use Rattle.roll.proofs.messages.look_over.Given as goal
-
-abbrev pub invariant-loop-i : goal.invariant-loop-i
-invariant-loop-i l = l.i ≤ l.count
-
-abbrev pub decreases-loop-i : goal.decreases-loop-i
-decreases-loop-i l = l.count - l.i
