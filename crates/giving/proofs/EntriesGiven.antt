@@ -1,24 +1,27 @@
--- The letters of an order list; and what is answered to a call for entries: 15 where a table has too little room, and otherwise the entries'
--- numbers and the letters.
-use Prim.Native.Nat.{ℕ, ◌+◌, ◌-◌, ◌/◌, ◌<◌, ◌≤◌}
+-- The letters of an order list, copied; and what is answered to a call for entries: 15 where a table has too little room, and otherwise the
+-- entries' numbers and the letters.
+use Prim.Native.Nat.{ℕ, suc, ◌+◌, ◌-◌, ◌/◌, ◌<◌, ◌≤◌}
 use mathlib.Core.Path.{◌≡◌, refl, sym, ◌∙◌, ap, ap₂, subst}
 use mathlib.Core.Bool.{Bool}
-use mathlib.Core.List.{List, [], ◌++◌}
-use lib.ListN.{length, drop, take}
+use mathlib.Core.List.{List, [], ◌∷◌}
+use lib.ListN.{length, take, set, length-set}
 use lib.Seq.{sets}
+use native.Mathlib.Nat.{add-zero}
+use native.Mathlib.Numerals.{add-one}
 use native.Mathlib.Omega.{arith}
 use borrow.Author.Tests.{lt-ltb, le-ltb, eqb-false}
 use Rattle.model.specs.Words.{when◌then◌else◌, ◌or◌, ◌<?◌, ◌≡?◌, ◌otherwise◌, first_said, Checked, passed, ◌>>=◌, ◌>>◌, refused}
 use Rattle.std.specs.Prelude.{Ok, Err}
-use Rattle.model.specs.Bytes.{part}
+use Rattle.model.specs.Bytes.{◌!◌, part}
 use Rattle.model.specs.Seek.{order_list, order_place, points_said}
 use Rattle.model.specs.SeekBytes.{entries_numbers}
 use Rattle.model.specs.Track.{Track}
-use Rattle.model.specs.Answer.{written_over, memory_after, track_named, letters_of, entries_of_track, entries_answer, entries_table, letters_table}
+use Rattle.model.specs.Answer.{memory_after, track_named, letters_of, entries_of_track, entries_answer, entries_table, letters_table}
 use Rattle.model.specs.declared.Points.{Points}
 use Rattle.model.specs.declared.Bodies.{Bodies}
 use Rattle.model.specs.declared.Refusal.{Refusal}
 use Rattle.model.specs.declared.EntriesAnswer.{EntriesAnswer}
+use Rattle.model.proofs.Parts.{part_cons}
 use Rattle.model.proofs.Tests.{by_test, if_true, if_false}
 use Rattle.seek.proofs.Standing.{Entries, all_entries}
 use Rattle.seek.proofs.Naming.{ordered}
@@ -27,6 +30,49 @@ use Rattle.playing.proofs.Played.{written_front}
 use Rattle.giving.specs.Giving.{Names, entries_fitted}
 use Rattle.giving.proofs.TrackNamed.{the_track, named_inside, named_small, not_named}
 use Rattle.giving.proofs.Seeking.{numbers_many}
+
+-- LETTERS COPIED
+
+pub record Copying (s : List ℕ) (from count : ℕ) (l out : List ℕ) (i : ℕ) : Type 0 where
+  pub few : i ≤ count
+  pub same : length out ≡ length l
+  pub whole : sets out i (part s (from + i) (count - i)) ≡ sets l 0 (part s from count)
+
+pub copy_starts : (s : List ℕ) (from count : ℕ) (l : List ℕ) → Copying s from count l l 0
+copy_starts s from count l =
+    let all : count - 0 ≡ count = omega arith in
+    record { few = omega arith; same = refl; whole = ap₂ (λ (a n : ℕ). sets l 0 (part s a n)) (add-zero from) all }
+
+module _ (s : List ℕ) (from count : ℕ) (l out : List ℕ) (i : ℕ) (c : Copying s from count l out i) where
+  pub copy_kept : length out ≡ length l
+  copy_kept = c.same
+
+  pub copy_ends : count ≤ i → out ≡ sets l 0 (part s from count)
+  copy_ends past =
+      let none : count - i ≡ 0 = omega arith in
+      sym (ap (λ (n : ℕ). sets out i (part s (from + i) n)) none) ∙ c.whole
+
+  module _ (here : i < count) where
+    pub copy_room : count ≤ length l → i < length out
+    copy_room h = omega (arith, c.same)
+
+    pub copy_turns : from + count ≤ length s → (m : List ℕ) → m ≡ set out i (s ! (from + i)) → Copying s from count l m (i + 1)
+    copy_turns inside m e =
+        let some : count - i ≡ suc (count - (i + 1)) = omega arith in
+        let after : suc (from + i) ≡ from + (i + 1) = omega arith in
+        let first : part s (from + i) (count - i) ≡ s ! (from + i) ∷ part s (from + (i + 1)) (count - (i + 1)) =
+        ap (part s (from + i)) some ∙ part_cons s (from + i) (count - (i + 1)) (omega arith)
+        ∙ ap (λ (n : ℕ). s ! (from + i) ∷ part s n (count - (i + 1))) after in
+        record {
+          few = omega arith;
+          same = ap length e ∙ length-set out i (s ! (from + i)) ∙ c.same;
+          whole =
+              ap₂ (λ (x : List ℕ) (n : ℕ). sets x n (part s (from + (i + 1)) (count - (i + 1)))) e (add-one i)
+              ∙ sym (ap (sets out i) first)
+              ∙ c.whole;
+        }
+
+pub ruleset copies = (copy_starts, copy_kept, copy_ends, copy_room, copy_turns)
 
 -- THE LETTERS of a seek body that is empty or has good form
 
@@ -155,13 +201,12 @@ module _ (phrases : Bool) (seek : List ℕ) (count : ℕ) (many : count ≡ leng
         e ∙ written_front l (entries_numbers (entries_said phrases seek)) (omega (arith, many, numbers_many (entries_said phrases seek)))
         ∙ ap (entries_table l) (sym (given points said (length l) space enough fit))
 
-    pub given_letters : (new : List ℕ) (room : ℕ) → Formed phrases seek → count ≤ room / 4 → points.letters ≤ length l
-        → new ≡ take (points.order + points.letters - points.order) (drop points.order seek)
-        → new ++ drop points.letters l ≡ letters_table l (entries_fitted room (length l) (entries_said phrases seek))
-    unfolding letters_table memory_after written_over
-    given_letters new room formed enough fit e =
-        let all : points.order + points.letters - points.order ≡ points.letters = omega arith in
-        ap₂ (λ (front : List ℕ) (n : ℕ). front ++ drop n l) (e ∙ ap (part seek points.order) all ∙ letters_are phrases seek formed points said) (letters_many phrases seek points said)
+    pub given_letters : (m : List ℕ) (room : ℕ) → Formed phrases seek → count ≤ room / 4 → points.letters ≤ length l → m ≡ sets l 0 (part seek points.order points.letters)
+        → m ≡ letters_table l (entries_fitted room (length l) (entries_said phrases seek))
+    unfolding letters_table memory_after
+    given_letters m room formed enough fit e =
+        e ∙ ap (sets l 0) (letters_are phrases seek formed points said)
+        ∙ written_front l (letters_of (entries_said phrases seek)) (omega (arith, letters_many phrases seek points said))
         ∙ ap (letters_table l) (sym (given points said room (length l) enough fit))
 
 pub ruleset entries_given_lem =

@@ -1,7 +1,8 @@
 // The entries of a seek body, four numbers each, and the letters of its order list. A track without a seek chunk has a seek body of no bytes,
 // and no entries.
-ghost use Rattle.std.specs.Prelude.{◌≡◌, ◌*◌, ◌≤◌, length};
+ghost use Rattle.std.specs.Prelude.{◌≡◌, ◌+◌, ◌*◌, ◌≤◌, length};
 ghost use Rattle.std.proofs.lemmas.List.Edits.{sets};
+ghost use Rattle.model.specs.Bytes.{part};
 ghost use Rattle.model.specs.SeekBytes.{entries_numbers};
 ghost use Rattle.model.specs.Answer.{entries_answer, entries_table, letters_table};
 ghost use Rattle.playing.specs.Performing.{bytes_in, entries_said, Formed, Inside};
@@ -61,6 +62,18 @@ fn fill_entries(phrases: bool, s: &[u8], table: &mut [u32])
     }
 }
 
+// So many letters from a place on. One by one: `copy_from_slice` makes the archive for C call `memmove`, which a program without a C library lacks.
+#[tactic(auto, using(crate::proofs::EntriesGiven::copies))]
+fn copy_letters(s: &[u8], from: usize, count: usize, letters: &mut [u8])
+    requires there { from + count ≤ length s.now }
+    requires room { count ≤ length letters.old }
+    ensures { letters.new ≡ sets letters.old 0 (part s.now from count) }
+{
+    for i in 0..count {
+        letters[i] = s[from + i];
+    }
+}
+
 #[tactic(auto, using(crate::proofs::EntriesGiven::entries_given_lem))]
 fn give_said(
     phrases: bool,
@@ -83,8 +96,7 @@ fn give_said(
         return refused(15, 0);
     }
     fill_entries(phrases, seek, table);
-    let end = points.order + points.letters;
-    letters[..points.letters].copy_from_slice(&seek[points.order..end]);
+    copy_letters(seek, points.order, points.letters, letters);
     Ok(EntriesAnswer {
         count,
         letters: points.letters,

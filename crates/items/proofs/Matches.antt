@@ -21,6 +21,17 @@ use Rattle.model.specs.declared.Read.{Read}
 use Rattle.model.specs.declared.ReadItem.{ReadItem}
 use Rattle.model.specs.declared.ReadItem.TheVariants.{Timed}
 
+-- the gate time that a callee read
+pub gated_is : (voice : Voice) (byte : ℕ) (d e : Checked (Read ℕ)) (value next : ℕ) (made : Event) → d ≡ e → d ≡ Ok (value up_to next)
+    → made ≡ sound voice byte value → Ok (made up_to next) ≡ gated voice byte e
+unfolding gated
+gated_is voice byte d e value next made p q h = rw (← p, q) (ap (λ (x : Event). Ok (x up_to next)) h)
+
+-- the voice is known
+pub sound_score : (voice : Voice) (byte gate : ℕ) (z : Event) → voice ≡ Score → z ≡ Note (byte / 64) (byte % 64) gate → z ≡ sound voice byte gate
+unfolding sound
+sound_score voice byte gate z p h = rw p h
+
 -- a short form has no more than 14 values
 pub standard_past : (kind short : ℕ) → 15 ≤ short → 0 ≡ standard_value kind short
 unfolding standard_value

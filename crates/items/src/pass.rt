@@ -40,14 +40,11 @@ pub fn is_short(voice: Voice, s: &[u8], at: usize) -> bool
     requires { at < length s.now }
     ensures { result ≡ is_short voice s.now at }
 {
-    if s.len() - at < 3 {
-        return false;
-    }
-    let [duration, byte, gate] = [s[at], s[at + 1], s[at + 2]];
-    duration < 128
-        && byte != 0x00
-        && byte != 0xFF
-        && 0 < gate
-        && gate < 128
-        && is_sound(voice, byte)
+    3 <= s.len() - at
+        && s[at] < 128
+        && s[at + 1] != 0x00
+        && s[at + 1] != 0xFF
+        && s[at + 2] != 0
+        && s[at + 2] < 128
+        && is_sound(voice, s[at + 1])
 }

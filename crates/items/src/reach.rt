@@ -7,7 +7,8 @@ ghost use Rattle.model.specs.Points.{is_address};
 use super::pass::pass_item;
 use model::Voice;
 
-// Whether a number is an address of a body that reads, which is not before another one.
+// Whether a number is an address of a body that reads, which is not before another one. Not inlined, so that its loop has registers of its own.
+#[inline(never)]
 pub fn is_address_from(voice: Voice, s: &[u8], from: usize, address: usize) -> bool
     requires s_len_bound { length s.now ≤ 65536 }
     requires s_value { is_fine (body_of voice s.now) ≡ true }

