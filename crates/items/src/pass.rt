@@ -34,7 +34,8 @@ pub fn pass_item(voice: Voice, s: &[u8], at: usize) -> usize
     pass_read(voice, s, at)
 }
 
-// Whether a short note or wave stands at a place, and is not refused.
+// Whether a short note or wave stands at a place, and is not refused. Each byte is taken where it is tested: where all three are taken first, the gate
+// time is tested before the duration, and a body of long durations takes half as long again.
 #[tactic(auto, using(crate::proofs::Passing::shorts, model::proofs::Tests::tests, model::proofs::Tests::junctions), unfolding(crate::specs::Passing::is_short))]
 pub fn is_short(voice: Voice, s: &[u8], at: usize) -> bool
     requires { at < length s.now }
