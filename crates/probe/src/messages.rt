@@ -6,17 +6,23 @@ use std::fmt;
 use std::fmt::Write;
 use text::Page;
 
-fn put_messages(page: &mut Page, steps: &[u64], words: &[u32], rows: usize) -> fmt::Result {
+pub fn put_message(page: &mut Page, step: u64, word: u32) {
+    page.put_decimal(step);
+    page.put_byte(b' ');
+    page.put_hex(word as u64, 8);
+    page.put_byte(b'\n');
+}
+
+fn put_messages(page: &mut Page, steps: &[u64], words: &[u32], rows: usize) {
     for (step, word) in steps.iter().zip(words).take(rows) {
-        writeln!(page, "{step} {word:08x}")?;
+        put_message(page, *step, *word);
     }
-    Ok(())
 }
 
 fn put_played(page: &mut Page, steps: &[u64], words: &[u32], answer: PlayAnswer) -> fmt::Result {
     let PlayAnswer { count, end } = answer;
     writeln!(page, "rows {count} end {end}")?;
-    put_messages(page, steps, words, count)?;
+    put_messages(page, steps, words, count);
     put_kept(page, is_kept(steps, count) && is_kept(words, count))
 }
 

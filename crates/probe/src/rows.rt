@@ -6,11 +6,17 @@ use std::fmt;
 use std::fmt::Write;
 use text::Page;
 
-fn put_rows(page: &mut Page, table: &[u32], rows: usize) -> fmt::Result {
+fn put_rows(page: &mut Page, table: &[u32], rows: usize) {
     for row in table.chunks_exact(4).take(rows) {
-        writeln!(page, "{:08x} {} {} {}", row[0], row[1], row[2], row[3])?;
+        page.put_hex(row[0] as u64, 8);
+        page.put_byte(b' ');
+        page.put_decimal(row[1] as u64);
+        page.put_byte(b' ');
+        page.put_decimal(row[2] as u64);
+        page.put_byte(b' ');
+        page.put_decimal(row[3] as u64);
+        page.put_byte(b'\n');
     }
-    Ok(())
 }
 
 fn put_accepted(page: &mut Page, table: &[u32], answer: ReadAnswer) -> fmt::Result {
@@ -21,7 +27,7 @@ fn put_accepted(page: &mut Page, table: &[u32], answer: ReadAnswer) -> fmt::Resu
     } = answer;
     let verdict = if matches { "yes" } else { "no" };
     writeln!(page, "rows {count} code {code:04x} verdict {verdict}")?;
-    put_rows(page, table, count)?;
+    put_rows(page, table, count);
     put_kept(page, is_whole(table, 4, count))
 }
 

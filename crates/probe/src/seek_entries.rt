@@ -11,24 +11,26 @@ use text::Page;
 const ORDER_LIST: u32 = 3;
 
 // A line for each entry, and for an order list one more, of its letters.
-fn put_entries(page: &mut Page, table: &[u32], letters: &[u8], count: usize) -> fmt::Result {
+fn put_entries(page: &mut Page, table: &[u32], letters: &[u8], count: usize) {
     for entry in table.chunks_exact(4).take(count) {
-        writeln!(
-            page,
-            "{} {:02x} {} {}",
-            entry[0], entry[1], entry[2], entry[3]
-        )?;
+        page.put_decimal(entry[0] as u64);
+        page.put_byte(b' ');
+        page.put_hex(entry[1] as u64, 2);
+        page.put_byte(b' ');
+        page.put_decimal(entry[2] as u64);
+        page.put_byte(b' ');
+        page.put_decimal(entry[3] as u64);
+        page.put_byte(b'\n');
         if entry[0] == ORDER_LIST {
-            put_line_of_bytes(page, letters, entry[2] as usize)?;
+            put_line_of_bytes(page, letters, entry[2] as usize);
         }
     }
-    Ok(())
 }
 
 fn put_sought(page: &mut Page, table: &[u32], room: &[u8], answer: EntriesAnswer) -> fmt::Result {
     let EntriesAnswer { count, letters } = answer;
     writeln!(page, "rows {count}")?;
-    put_entries(page, table, room, count)?;
+    put_entries(page, table, room, count);
     put_kept(page, is_whole(table, 4, count) && is_kept(room, letters))
 }
 

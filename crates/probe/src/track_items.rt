@@ -1,6 +1,7 @@
 // `m`: the items of a track, two numbers each, and whether the rest of the table was kept.
 use super::cases::Case;
 use super::kept::{blank, is_kept, is_whole, put_kept, put_refused};
+use super::messages::put_message;
 use std::fmt;
 use std::fmt::Write;
 use text::Page;
@@ -8,7 +9,7 @@ use text::Page;
 fn put_items(page: &mut Page, table: &[u32], count: usize) -> fmt::Result {
     writeln!(page, "rows {count}")?;
     for item in table.chunks_exact(2).take(count) {
-        writeln!(page, "{} {:08x}", item[0], item[1])?;
+        put_message(page, item[0] as u64, item[1]);
     }
     put_kept(page, is_whole(table, 2, count))
 }
