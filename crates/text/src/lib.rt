@@ -18,7 +18,9 @@ pub struct Page {
 impl Page {
     ghost use Rattle.text.specs.Paper.{on_page, Put, PutNumber};
 
-    pub fn new() -> Page {
+    pub fn new() -> Page
+        ensures { on_page result ≡ [] }
+    {
         Page {
             bytes: [0; LENGTH],
             used: 0,
